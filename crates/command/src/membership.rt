@@ -1,0 +1,1 @@
+//! How chains are made and how settled commands change them.
