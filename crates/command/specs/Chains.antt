@@ -5,16 +5,32 @@ use Prim.Native.Nat.{ℕ, _-_}
 use lib.ListN.{length, take}
 use Rattle.std.specs.declared.option.Option.{Option}
 use Rattle.std.specs.declared.option.Option.the-variants.{Some, None}
+use Rattle.std.specs.declared.result.Result.{Result}
+use Rattle.std.specs.declared.result.Result.the-variants.{Ok, Err}
 use Rattle.command.specs.declared.Command.{Command}
 use Rattle.command.specs.declared.Verb.{Verb}
 use Rattle.command.specs.declared.Verb.the-variants.{Noop, Add, Remove, Change}
 use Rattle.command.specs.declared.chains.Chain.{Chain}
+use Rattle.command.specs.declared.chains.InvalidChain.{InvalidChain}
 use Rattle.command.specs.Commands.{verbOf, wellFormed}
-use Rattle.command.specs.Members.{Membership, founded, added, removed}
+use Rattle.command.specs.Members.{Membership, validChain, founded, added, removed}
 
 -- what a chain of the code stands for
 abbrev pub membership : Chain → Membership
 membership c = record { members = take (c .count) (c .places); ever = c .ever .bits }
+
+-- the refusal's number
+abbrev pub refusalNumber : InvalidChain → ℕ
+refusalNumber _ = 11
+
+-- what making a chain answers, by its meaning and its refusal's number
+abbrev pub answered : Result Chain InvalidChain → Result Membership ℕ
+answered (Ok c) = Ok (membership c)
+answered (Err e) = Err (refusalNumber e)
+
+-- the answer that making a chain of these members owes: the founded chain, or refusal 11 where they are no valid chain
+abbrev pub founding : List ℕ → Result Membership ℕ
+founding ms = cond (validChain ms) (Ok (founded ms)) (Err 11)
 
 -- what a command of this kind makes of the chain
 abbrev pub changed : Option Verb → Command → Membership → Membership
@@ -39,4 +55,4 @@ lag = 8
 
 -- the chain for slot n: the founding one after the settled commands 1 to n − 8, none for n ≤ 8
 abbrev pub chainFor : Membership → List Command → ℕ → Membership
-chainFor founding settled n = afterAll founding (take (n - lag) settled)
+chainFor start settled n = afterAll start (take (n - lag) settled)

@@ -13,7 +13,11 @@ has s d = eqb (s / 2 ^ d % 2) 1
 abbrev pub withDirector : ℕ → ℕ → ℕ
 withDirector s d = cond (leb d 31) (bitOr s (2 ^ d)) s
 
+-- the set s and the directors of a list
+abbrev pub withAll : ℕ → List ℕ → ℕ
+withAll s [] = s
+withAll s (d ∷ ds) = withAll (withDirector s d) ds
+
 -- the set of the directors of a list
 abbrev pub setOf : List ℕ → ℕ
-setOf [] = 0
-setOf (d ∷ ds) = withDirector (setOf ds) d
+setOf ds = withAll 0 ds
