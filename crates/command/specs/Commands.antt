@@ -1,6 +1,6 @@
 -- What a command's verb means, and which commands may stand in a list.
 use mathlib.Core.Bool.{Bool, true, false, cond, _&&_}
-use Prim.Native.Nat.{ℕ}
+use Prim.Native.Nat.{ℕ, _^_, _<_}
 use lib.Dec.{eqb, leb}
 use Rattle.std.specs.declared.option.Option.{Option}
 use Rattle.std.specs.declared.option.Option.the-variants.{Some, None}
@@ -11,6 +11,14 @@ use Rattle.command.specs.declared.Verb.the-variants.{Noop, Add, Remove, Change
 -- a serial's width in bytes
 abbrev pub serialBytes : ℕ
 serialBytes = 4
+
+-- each field lies within its width: verb 8 bits, origin, a and b 16, serial its own
+pub record Sized (c : Command) : Type 0 where
+  pub verb : c .verb < 256
+  pub origin : c .origin < 256 ^ 2
+  pub serial : c .serial < 256 ^ serialBytes
+  pub a : c .a < 256 ^ 2
+  pub b : c .b < 256 ^ 2
 
 -- the kind of change that a verb's number stands for: 0 the no-op, 1 add, 2 remove, 16 and above a change for the machine
 abbrev pub verbOf : ℕ → Option Verb

@@ -1,18 +1,20 @@
-//! Commands of the list of changes, sets of directors, and the chain of directors that counts for each place of the list.
+//! Commands of the list of changes, sets of directors, and the chain of directors that counts for each slot of the list.
 
 mod chains;
 mod enough;
 mod membership;
+mod serials;
 mod sets;
 
 ghost use Rattle.command.specs.Commands.{verbOf, wellFormed};
 ghost use mathlib.Core.Path.{_≡_};
 pub use chains::Chain;
 pub use chains::InvalidChain;
+pub use serials::SERIAL_BYTES;
+pub use serials::Serial;
+pub use serials::read_serial;
+pub use serials::write_serial;
 pub use sets::DirectorSet;
-
-/// How wide a serial is. `serialBytes` in specs/Commands.antt tells the same width in bytes; no other place does.
-pub type Serial = u32;
 
 /// One change of the list, with any content: `is_well_formed` tells whether it may stand in a list.
 #[derive(Clone, Copy, PartialEq, Eq, Debug)]
