@@ -1,5 +1,5 @@
 -- What a reader finds in a file of any bytes.
-use mathlib.Core.Bool.{Bool, cond, _&&_}
+use mathlib.Core.Bool.{Bool, true, false, cond, _&&_}
 use mathlib.Core.List.{List, [], _∷_}
 use Prim.Native.Nat.{ℕ, zero, suc, _+_, _-_}
 use lib.Dec.{eqb, leb, ltb}
@@ -13,7 +13,7 @@ use Rattle.command.specs.declared.Verb.{Verb}
 use Rattle.command.specs.declared.Verb.the-variants.{Noop, Add, Remove, Change}
 use Rattle.command.specs.Commands.{verbOf, serialBytes}
 use Rattle.command.specs.Members.{validChain}
-use Rattle.archive.specs.Layout.{mark, countBytes, most}
+use Rattle.archive.specs.Layout.{mark, countBytes, header, entry, entries}
 
 -- how long an entry of this kind is, where a is the byte after its verb: 0 where there is no such entry
 abbrev pub sizeAs : Option Verb → ℕ → ℕ
@@ -70,13 +70,16 @@ found cs o = record { commands = cs; broken = o }
 abbrev pub andThen : Command → Found → Found
 andThen c f = found (c ∷ f .commands) (f .broken)
 
--- through the entries in these bytes, the first at this offset; each takes a byte at least, so k = their number is enough
+-- through the entries in these bytes, the first at offset i, in k steps: as many as there are bytes are enough
 unfoldable pub scan : ℕ → ℕ → List ℕ → Found
 scan k i [] = found [] None
 scan zero i (b ∷ bs) = found [] (Some i)
 scan (suc k) i (b ∷ bs) =
     cond (eqb (sizeOf (b ∷ bs)) 0) (found [] (Some i))
     (andThen (commandOf (b ∷ bs)) (scan k (i + sizeOf (b ∷ bs)) (rest (b ∷ bs))))
+
+abbrev pub scanAll : ℕ → List ℕ → Found
+scanAll i bs = scan (length bs) i bs
 
 -- where the count stands
 abbrev pub countAt : List ℕ → ℕ
@@ -94,9 +97,16 @@ startOf f = 5 + getD f 4 0
 abbrev pub bodyOf : List ℕ → List ℕ
 bodyOf f = drop (startOf f) (take (countAt f) f)
 
+-- two lists of bytes are the same
+abbrev pub sameBytes : List ℕ → List ℕ → Bool
+sameBytes [] [] = true
+sameBytes [] (c ∷ cs) = false
+sameBytes (b ∷ bs) [] = false
+sameBytes (b ∷ bs) (c ∷ cs) = eqb b c && sameBytes bs cs
+
 -- the file begins with the mark
 abbrev pub hasMark : List ℕ → Bool
-hasMark f = eqb (getD f 0 0) 0x48 && eqb (getD f 1 0) 0x50 && eqb (getD f 2 0) 0x41 && eqb (getD f 3 0) 0x31
+hasMark f = sameBytes (take 4 f) mark
 
 -- the chain ends before the count and is valid
 abbrev pub hasChain : List ℕ → Bool
@@ -104,12 +114,35 @@ hasChain f = leb (startOf f) (countAt f) && validChain (membersOf f)
 
 -- through all entries of the file
 abbrev pub scanned : List ℕ → Found
-scanned f = scan (length f) (startOf f) (bodyOf f)
+scanned f = scanAll (startOf f) (bodyOf f)
 
 -- the count tells how many entries there are
 abbrev pub hasCount : List ℕ → List Command → Bool
 hasCount f cs = eqb (num (drop (countAt f) f)) (length cs)
 
--- after mark and chain: the first broken entry, else the count if it is wrong
-abbrev pub faultAfter : List ℕ → Found → Option ℕ
-faultAfter f (found′) = ?
+-- the first broken entry; where there is none, the count if it is wrong
+abbrev pub orCount : List ℕ → List Command → Option ℕ → Option ℕ
+orCount f cs (Some i) = Some i
+orCount f cs None = cond (hasCount f cs) None (Some (countAt f))
+
+-- the offset of the first broken part in the order mark, chain, entries, count; none where the file is whole.
+-- The shortest file has 8 bytes: one that is shorter is broken from its beginning.
+abbrev pub fault : List ℕ → Option ℕ
+fault f =
+    cond (ltb (length f) 8) (Some 0)
+    (cond (hasMark f)
+      (cond (hasChain f) (orCount f (scanned f .commands) (scanned f .broken)) (Some 4))
+      (Some 0))
+
+-- entry n of these bytes, n from 1, as its offset and its bytes, if there is one; the first is at offset i
+abbrev pub entryAt : ℕ → ℕ → List ℕ → Option (ℕ × List ℕ)
+entryAt zero i bs = None
+entryAt (suc zero) i bs = cond (eqb (sizeOf bs) 0) None (Some (i, take (sizeOf bs) bs))
+entryAt (suc (suc n)) i bs = cond (eqb (sizeOf bs) 0) None (entryAt (suc n) (i + sizeOf bs) (rest bs))
+
+-- entry n of a list: the bytes of its n-th command, where the header and the entries before it end
+abbrev pub entryOf : List ℕ → List Command → ℕ → Option (ℕ × List ℕ)
+entryOf ms cs n =
+    cond (ltb 0 n && leb n (length cs))
+    (Some (length (header ms) + length (entries (take (n - 1) cs)), entry (getD cs (n - 1) (commandAs None []))))
+    None

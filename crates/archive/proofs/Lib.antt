@@ -1,0 +1,3 @@
+pub mod OneEntry
+pub mod Scans
+pub mod Files

@@ -1,0 +1,22 @@
+//! The archive file of a year: written once, read for decades.
+
+mod entries;
+mod reading;
+mod writing;
+
+pub use entries::Entries;
+pub use entries::Entry;
+pub use reading::Broken;
+pub use reading::Reader;
+pub use writing::OpenArchive;
+pub use writing::Refusal;
+pub use writing::SealedArchive;
+
+/// The four bytes that every archive file begins with.
+pub const MARK: [u8; 4] = [0x48, 0x50, 0x41, 0x31];
+
+// How many bytes the count of entries takes at the end of a file.
+const COUNT_BYTES: usize = 2;
+
+// How many bytes stand before the chain's members: the mark and the chain's length.
+const HEADER_BYTES: usize = 5;

@@ -1,0 +1,129 @@
+//! The reader: it borrows the file, checks every part once, and then tells what the file holds.
+
+ghost use Prim.Native.Nat.{ℕ, _-_, _≤_};
+ghost use Rattle.archive.specs.Layout.{Archive};
+ghost use Rattle.archive.specs.Readers.{refusalNumber, shown, Reads, Opens, Exact, Counts};
+ghost use Rattle.archive.specs.Reading.{fault, hasMark, scanAll, entryAt, entryOf};
+ghost use Rattle.command.specs.declared.Command.{Command};
+ghost use lib.ListN.{length};
+ghost use mathlib.Core.List.{List};
+ghost use mathlib.Core.Path.{_≡_};
+use bytes::read_u16;
+use command::Chain;
+use crate::COUNT_BYTES;
+use crate::Entries;
+use crate::Entry;
+use crate::HEADER_BYTES;
+use crate::MARK;
+
+/// A file that was found whole, by its parts.
+#[derive(Clone, Copy)]
+pub struct Reader<'a> {
+    members: &'a [u8],
+    body: &'a [u8],
+    end: usize,
+    count: usize,
+}
+
+/// Why a file was refused (refusal 15): the offset of its first broken part.
+#[derive(Clone, Copy, PartialEq, Eq, Debug)]
+pub struct Broken {
+    pub offset: usize,
+}
+
+impl Broken {
+    /// The number of this refusal.
+    pub fn number(self) -> u8
+        ensures { λ r. ⌜ r ≡ refusalNumber self ⌝ }
+    {
+        15
+    }
+}
+
+impl<'a> Reader<'a> {
+    /// Checks mark, chain, entries and count, in this order. Refusal 15 tells the offset of the first broken part.
+    pub fn open(file: &'a [u8]) -> Result<Reader<'a>, Broken>
+        ensures opens { λ r. ⌜ Opens (now (file .entry)) (fault (now (file .entry))) r ⌝ }
+        ensures exact { λ _. ⌜ Exact (now (file .entry)) ⌝ }
+    {
+        if file.len() < 8 || !has_mark(file) {
+            return Err(Broken { offset: 0 });
+        }
+        let end = file.len() - COUNT_BYTES;
+        let start = HEADER_BYTES + file[4] as usize;
+        if start > end {
+            return Err(Broken { offset: 4 });
+        }
+        let members = &file[HEADER_BYTES..start];
+        if Chain::new(members).is_err() {
+            return Err(Broken { offset: 4 });
+        }
+        let body = &file[start..end];
+        let count = count_entries(body, end)?;
+        if read_u16(file, end) as usize != count {
+            return Err(Broken { offset: end });
+        }
+        Ok(Reader { members, body, end, count })
+    }
+
+    /// The founding chain's members, a part of the file.
+    pub fn members(&self) -> &'a [u8]
+        ensures { λ r. ⌜ now r ≡ now (now (self .entry) .members) ⌝ }
+    {
+        self.members
+    }
+
+    /// How many entries the file has.
+    pub fn count(&self) -> usize
+        ensures { λ r. ⌜ r ≡ now (self .entry) .count ⌝ }
+    {
+        self.count
+    }
+
+    /// All entries in their order.
+    pub fn entries(&self) -> Entries<'a>
+        ensures rest { λ r. ⌜ now (r .rest) ≡ now (now (self .entry) .body) ⌝ }
+        ensures end { λ r. ⌜ r .end ≡ now (self .entry) .end ⌝ }
+    {
+        Entries { rest: self.body, end: self.end }
+    }
+
+    /// Entry n, counted from 1, as its offset and its bytes, a part of the file, if there is one.
+    pub fn entry(&self, n: usize) -> Option<Entry<'a>>
+        ensures answer { λ r. ⌜ shown r ≡ entryAt n (now (self .entry) .end - length (now (now (self .entry) .body))) (now (now (self .entry) .body)) ⌝ }
+        ensures meaning { λ r. ⌜ ((f ms : List ℕ) (cs : List Command) → Reads f (now (self .entry)) → Archive f ms cs → shown r ≡ entryOf ms cs n) ⌝ }
+    {
+        if n == 0 {
+            return None;
+        }
+        let mut entries = self.entries();
+        for _i in 1..n {
+            entries.next()?;
+        }
+        entries.next()
+    }
+}
+
+// Whether a file of at least four bytes begins with the mark.
+fn has_mark(file: &[u8]) -> bool
+    requires { ⌜ 4 ≤ length (now file) ⌝ }
+    ensures { λ r. ⌜ r ≡ hasMark (now (file .entry)) ⌝ }
+{
+    file[0] == MARK[0] && file[1] == MARK[1] && file[2] == MARK[2] && file[3] == MARK[3]
+}
+
+// How many entries there are in these bytes, which end at this offset, or where the first broken one is.
+fn count_entries(body: &[u8], end: usize) -> Result<usize, Broken>
+    ensures { λ r. ⌜ Counts (scanAll (end - length (now (body .entry))) (now (body .entry))) r ⌝ }
+{
+    let mut entries = Entries { rest: body, end };
+    let mut count = 0;
+    while !entries.rest.is_empty() {
+        let at = end.saturating_sub(entries.rest.len());
+        if entries.next().is_none() {
+            return Err(Broken { offset: at });
+        }
+        count += 1;
+    }
+    Ok(count)
+}
