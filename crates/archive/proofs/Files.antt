@@ -11,6 +11,7 @@ use Rattle.std.specs.declared.option.Option.the-variants.{Some, None}
 use Rattle.std.proofs.shelf.Tests.{and-parts, and-from, le-leb, leb-true, eqb-true, eq-eqb, le-ltb, ltb-false, cond-true}
 use Rattle.std.proofs.shelf.Elements.{all-drop, all-take}
 use Rattle.std.proofs.shelf.Lists.{length-append, length-drop, length-take-le, take-at, drop-at, take-append-drop, take-take}
+use Rattle.std.proofs.shelf.Equals.{sameBytes-decides}
 use Rattle.bytes.specs.Areas.{part}
 use Rattle.bytes.specs.Numbers.{le, num}
 use Rattle.bytes.proofs.Areas.{part-more}
@@ -19,18 +20,10 @@ use Rattle.command.specs.declared.Command.{Command}
 use Rattle.command.specs.Members.{validChain}
 use Rattle.command.proofs.Lists.{valid-parts}
 use Rattle.archive.specs.Layout.{mark, header, entries, layout, Archive}
-use Rattle.archive.specs.Reading.{sameBytes, hasMark, hasChain, hasCount, orCount, fault, scanned, scanAll, found, membersOf, startOf, countAt, bodyOf}
+use Rattle.archive.specs.Reading.{hasMark, hasChain, hasCount, orCount, fault, scanned, scanAll, found, membersOf, startOf, countAt, bodyOf}
 use Rattle.archive.specs.Readers.{Exact}
 use Rattle.archive.proofs.OneEntry.{part-join}
 use Rattle.archive.proofs.Scans.{scan-entries, whole, some-none}
-
-same-bytes : (xs ys : List ℕ) → sameBytes xs ys ≡ true → xs ≡ ys
-same-bytes [] [] h = refl
-same-bytes [] (y ∷ ys) h = absurd (mathlib.Core.Bool.false≢true h)
-same-bytes (x ∷ xs) [] h = absurd (mathlib.Core.Bool.false≢true h)
-same-bytes (x ∷ xs) (y ∷ ys) h =
-    let p = and-parts (eqb x y) (sameBytes xs ys) h in
-    ap₂ (λ (z : ℕ) (zs : List ℕ). z ∷ zs) (eqb-true x y (p .0)) (same-bytes xs ys (p .1))
 
 -- where nothing is broken, each test passed
 record Passed (a b c : Bool) (d : Option ℕ) : Type 0 where
@@ -53,9 +46,12 @@ counted f cs None e = (refl, go (hasCount f cs) e)
     go true e = refl
     go false e = absurd (some-none e)
 
-no-fault : (a b c : Bool) (d : Option ℕ) → a ≡ false → b ≡ true → c ≡ true → d ≡ None
-    → cond a (Some 0) (cond b (cond c d (Some 4)) (Some 0)) ≡ None
-no-fault a b c d p q r s = λ j. cond (p j) (Some 0) (cond (q j) (cond (r j) (s j) (Some 4)) (Some 0))
+-- the first broken part, by what the tests found
+pub fault-by : (f : List ℕ) (a b c : Bool) → ltb (length f) 8 ≡ a → hasMark f ≡ b → hasChain f ≡ c
+    → fault f ≡ cond a (Some 0)
+        (cond b (cond c (orCount f (scanned f .commands) (scanned f .broken)) (Some 4)) (Some 0))
+fault-by f a b c p q r = λ j. cond (p j) (Some 0)
+    (cond (q j) (cond (r j) (orCount f (scanned f .commands) (scanned f .broken)) (Some 4)) (Some 0))
 
 -- ---- what is written is found whole
 
@@ -90,6 +86,16 @@ module _ (ms body tail : List ℕ) (two : length tail ≡ 2) where
       let file = laid ms body tail in
       ap (drop (countAt file)) shape ∙ drop-at (header ms ++ body) tail (countAt file) (sym laid-count)
 
+-- where the count and the entries of a written file are
+pub file-count : (f ms : List ℕ) (cs : List Command) → Archive f ms cs → countAt f ≡ length (header ms) + length (entries cs)
+unfolding layout
+file-count f ms cs a =
+    ap countAt (a .laid) ∙ laid-count ms (entries cs) (le 2 (length cs)) refl ∙ length-append (header ms) (entries cs)
+
+pub file-body : (f ms : List ℕ) (cs : List Command) → Archive f ms cs → bodyOf f ≡ entries cs
+unfolding layout
+file-body f ms cs a = ap bodyOf (a .laid) ∙ laid-body ms (entries cs) (le 2 (length cs)) refl
+
 -- the tests that a written file passes
 written : (f ms : List ℕ) (cs : List Command) → Archive f ms cs
     → (fault f ≡ None) × (membersOf f ≡ ms) × (scanned f .commands ≡ cs)
@@ -101,8 +107,8 @@ written f ms cs a =
     let length-is = laid-length ms (entries cs) (le 2 (length cs)) refl in
     let members = laid-members ms (entries cs) (le 2 (length cs)) refl in
     let scan : scanned file ≡ found cs None =
-            ap (scanAll (startOf file)) (laid-body ms (entries cs) (le 2 (length cs)) refl)
-            ∙ scan-entries cs (startOf file) (a .formed) (a .sized) in
+            ap (scanAll (countAt file)) (laid-body ms (entries cs) (le 2 (length cs)) refl)
+            ∙ scan-entries cs (countAt file) (a .formed) (a .sized) in
     let chain : hasChain file ≡ true =
             and-from (leb (startOf file) (countAt file)) (validChain (membersOf file))
             (le-leb (startOf file) (countAt file) (omega arith)) (ap validChain members ∙ a .chain) in
@@ -110,8 +116,8 @@ written f ms cs a =
             eq-eqb (num (drop (countAt file) file)) (length cs)
             (ap num (laid-tail ms (entries cs) (le 2 (length cs)) refl) ∙ num-le 2 (length cs) (omega (arith, a .few))) in
     let all : fault file ≡ None =
-            no-fault (ltb (length file) 8) (hasMark file) (hasChain file) _ (le-ltb (length file) 8 (omega arith)) refl chain
-            (ap (λ s. orCount file (s .commands) (s .broken)) scan ∙ cond-true (hasCount file cs) None (Some (countAt file)) count) in
+            fault-by file false true true (le-ltb (length file) 8 (omega arith)) refl chain
+            ∙ (ap (λ s. orCount file (s .commands) (s .broken)) scan ∙ cond-true (hasCount file cs) None (Some (countAt file)) count) in
     rw same (all, members, ap (λ s. s .commands) scan)
 
 -- ---- what is found whole was written
@@ -151,7 +157,7 @@ read-back f b e =
     let fits = leb-true (startOf f) (countAt f) (c .0) in
     let long = ltb-false (length f) 8 (p .long) in
     let bytes-body = all-drop (λ x. x < 256) (startOf f) (take (countAt f) f) (all-take (λ x. x < 256) (countAt f) f b) in
-    let w = whole (startOf f) (bodyOf f) bytes-body (q .0) in
+    let w = whole (countAt f) (bodyOf f) bytes-body (q .0) in
     let tail = drop (countAt f) f in
     let two = count-length f fits long in
     let bytes-tail = all-drop (λ x. x < 256) (countAt f) f b in
@@ -162,7 +168,7 @@ read-back f b e =
     record {
       laid = sym (three-parts f fits long)
           ∙ ap₂ (λ (xs ys : List ℕ). xs ++ (ys ++ tail))
-              (front-header f fits long (same-bytes (take 4 f) mark (p .marked))) (sym (w .bytes))
+              (front-header f fits long (sameBytes-decides (take 4 f) mark .0 (p .marked))) (sym (w .bytes))
           ∙ ap (λ (xs : List ℕ). header (membersOf f) ++ (entries cs ++ xs)) (sym count);
       chain = c .1;
       formed = w .formed;

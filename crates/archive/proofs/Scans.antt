@@ -39,21 +39,21 @@ scan-enough (suc k) (suc m) i (b ∷ bs) h g =
     (λ e.
       let l = rest-shorter (b ∷ bs) (eqb-false (sizeOf (b ∷ bs)) 0 e) in
       ap (andThen (commandOf (b ∷ bs)))
-      (scan-enough k m (i + sizeOf (b ∷ bs)) (rest (b ∷ bs)) (omega arith) (omega arith)))
+      (scan-enough k m i (rest (b ∷ bs)) (omega arith) (omega arith)))
 
 -- the first entry is whole
 pub scan-more : (i : ℕ) (bs : List ℕ) → (sizeOf bs ≡ 0 → ⊥)
-    → scanAll i bs ≡ andThen (commandOf bs) (scanAll (i + sizeOf bs) (rest bs))
+    → scanAll i bs ≡ andThen (commandOf bs) (scanAll i (rest bs))
 unfolding scan
 scan-more i [] some = absurd (some refl)
 scan-more i (b ∷ bs) some =
     let l = rest-shorter (b ∷ bs) some in
     cond-false (eqb (sizeOf (b ∷ bs)) 0) _ _ (ne-eqb (sizeOf (b ∷ bs)) 0 some)
     ∙ ap (andThen (commandOf (b ∷ bs)))
-        (scan-enough (length bs) (length (rest (b ∷ bs))) (i + sizeOf (b ∷ bs)) (rest (b ∷ bs)) (omega arith) (omega arith))
+        (scan-enough (length bs) (length (rest (b ∷ bs))) i (rest (b ∷ bs)) (omega arith) (omega arith))
 
 -- the first entry is broken
-pub scan-stop : (i : ℕ) (bs : List ℕ) → 0 < length bs → sizeOf bs ≡ 0 → scanAll i bs ≡ found [] (Some i)
+pub scan-stop : (i : ℕ) (bs : List ℕ) → 0 < length bs → sizeOf bs ≡ 0 → scanAll i bs ≡ found [] (Some (i - length bs))
 unfolding scan
 scan-stop i [] l none = absurd (omega arith)
 scan-stop i (b ∷ bs) l none = cond-true (eqb (sizeOf (b ∷ bs)) 0) _ _ (eq-eqb (sizeOf (b ∷ bs)) 0 none)
@@ -61,6 +61,19 @@ scan-stop i (b ∷ bs) l none = cond-true (eqb (sizeOf (b ∷ bs)) 0) _ _ (eq-eq
 pub scan-end : (i : ℕ) → scanAll i [] ≡ found [] None
 unfolding scan
 scan-end i = refl
+
+-- one entry more was counted
+pub record Counted (e : ℕ) (bs after : List ℕ) : Type 0 where
+  pub broken : scanAll e after .broken ≡ scanAll e bs .broken
+  pub count : 1 + length (scanAll e after .commands) ≡ length (scanAll e bs .commands)
+  pub shorter : length after + 1 ≤ length bs
+
+pub counted-more : (e : ℕ) (bs after : List ℕ) → (sizeOf bs ≡ 0 → ⊥) → after ≡ rest bs → Counted e bs after
+counted-more e bs after some same =
+    let more = scan-more e bs some in
+    let c : 1 + length (scanAll e (rest bs) .commands) ≡ length (scanAll e bs .commands) =
+            omega (arith, ap (λ f. length (f .commands)) more) in
+    rw same (record { broken = ap (λ f. f .broken) (sym more); count = c; shorter = rest-shorter bs some })
 
 -- what was written of a list is found again
 pub scan-entries : (cs : List Command) (i : ℕ) → All (λ c. wellFormed c ≡ true) cs → All Sized cs
@@ -73,8 +86,8 @@ scan-entries (c ∷ cs) i h s =
     let some = r .some in
     let left : rest bs ≡ entries cs = drop-at (entry c) (entries cs) (sizeOf bs) (sym size) in
     scan-more i bs (λ z. omega arith)
-    ∙ ap₂ (λ (d : Command) (xs : List ℕ). andThen d (scanAll (i + sizeOf bs) xs)) (r .same) left
-    ∙ ap (andThen c) (scan-entries cs (i + sizeOf bs) (h .1) (s .1))
+    ∙ ap₂ (λ (d : Command) (xs : List ℕ). andThen d (scanAll i xs)) (r .same) left
+    ∙ ap (andThen c) (scan-entries cs i (h .1) (s .1))
 
 -- bytes whose entries are all whole are what is written of the commands that were found
 pub record Whole (bs : List ℕ) (cs : List Command) : Type 0 where
@@ -88,8 +101,8 @@ some-none e = let z : _≡_ {A = ℕ} 0 1 = cc in omega arith
 -- one step of that, whether or not the first entry is whole
 entries-step : (i : ℕ) (bs : List ℕ) (t : Bool) → eqb (sizeOf bs) 0 ≡ t → Bytes bs → (f : Found)
     → ((sizeOf bs ≡ 0 → ⊥) → f .broken ≡ None → Whole (rest bs) (f .commands))
-    → cond t (found [] (Some i)) (andThen (commandOf bs) f) .broken ≡ None
-    → Whole bs (cond t (found [] (Some i)) (andThen (commandOf bs) f) .commands)
+    → cond t (found [] (Some (i - length bs))) (andThen (commandOf bs) f) .broken ≡ None
+    → Whole bs (cond t (found [] (Some (i - length bs))) (andThen (commandOf bs) f) .commands)
 entries-step i bs true q b f next e = absurd (some-none e)
 entries-step i bs false q b f next e =
     let some = eqb-false (sizeOf bs) 0 q in
@@ -107,10 +120,10 @@ entries-scan k i [] h b e = record { bytes = refl; formed = tt; sized = tt }
 entries-scan zero i (x ∷ bs) h b e = absurd (omega arith)
 entries-scan (suc k) i (x ∷ bs) h b e =
     let size = sizeOf (x ∷ bs) in
-    entries-step i (x ∷ bs) (eqb size 0) refl b (scan k (i + size) (rest (x ∷ bs)))
+    entries-step i (x ∷ bs) (eqb size 0) refl b (scan k i (rest (x ∷ bs)))
     (λ some none.
       let l = rest-shorter (x ∷ bs) some in
-      entries-scan k (i + size) (rest (x ∷ bs)) (omega arith) (all-drop (λ y. y < 256) size (x ∷ bs) b) none)
+      entries-scan k i (rest (x ∷ bs)) (omega arith) (all-drop (λ y. y < 256) size (x ∷ bs) b) none)
     e
 
 pub whole : (i : ℕ) (bs : List ℕ) → Bytes bs → scanAll i bs .broken ≡ None → Whole bs (scanAll i bs .commands)

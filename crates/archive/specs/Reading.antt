@@ -1,11 +1,12 @@
 -- What a reader finds in a file of any bytes.
-use mathlib.Core.Bool.{Bool, true, false, cond, _&&_}
+use mathlib.Core.Bool.{Bool, cond, _&&_}
 use mathlib.Core.List.{List, [], _∷_}
 use Prim.Native.Nat.{ℕ, zero, suc, _+_, _-_}
 use lib.Dec.{eqb, leb, ltb}
 use lib.ListN.{length, take, drop, getD}
 use Rattle.std.specs.declared.option.Option.{Option}
 use Rattle.std.specs.declared.option.Option.the-variants.{Some, None}
+use Rattle.std.specs.shelf.Text.{sameBytes}
 use Rattle.bytes.specs.Areas.{part}
 use Rattle.bytes.specs.Numbers.{num}
 use Rattle.command.specs.declared.Command.{Command}
@@ -70,16 +71,16 @@ found cs o = record { commands = cs; broken = o }
 abbrev pub andThen : Command → Found → Found
 andThen c f = found (c ∷ f .commands) (f .broken)
 
--- through the entries in these bytes, the first at offset i, in k steps: as many as there are bytes are enough
+-- through the entries in these bytes, which end at offset e, in k steps: as many as there are bytes are enough
 unfoldable pub scan : ℕ → ℕ → List ℕ → Found
-scan k i [] = found [] None
-scan zero i (b ∷ bs) = found [] (Some i)
-scan (suc k) i (b ∷ bs) =
-    cond (eqb (sizeOf (b ∷ bs)) 0) (found [] (Some i))
-    (andThen (commandOf (b ∷ bs)) (scan k (i + sizeOf (b ∷ bs)) (rest (b ∷ bs))))
+scan k e [] = found [] None
+scan zero e (b ∷ bs) = found [] (Some (e - length (b ∷ bs)))
+scan (suc k) e (b ∷ bs) =
+    cond (eqb (sizeOf (b ∷ bs)) 0) (found [] (Some (e - length (b ∷ bs))))
+    (andThen (commandOf (b ∷ bs)) (scan k e (rest (b ∷ bs))))
 
 abbrev pub scanAll : ℕ → List ℕ → Found
-scanAll i bs = scan (length bs) i bs
+scanAll e bs = scan (length bs) e bs
 
 -- where the count stands
 abbrev pub countAt : List ℕ → ℕ
@@ -97,13 +98,6 @@ startOf f = 5 + getD f 4 0
 abbrev pub bodyOf : List ℕ → List ℕ
 bodyOf f = drop (startOf f) (take (countAt f) f)
 
--- two lists of bytes are the same
-abbrev pub sameBytes : List ℕ → List ℕ → Bool
-sameBytes [] [] = true
-sameBytes [] (c ∷ cs) = false
-sameBytes (b ∷ bs) [] = false
-sameBytes (b ∷ bs) (c ∷ cs) = eqb b c && sameBytes bs cs
-
 -- the file begins with the mark
 abbrev pub hasMark : List ℕ → Bool
 hasMark f = sameBytes (take 4 f) mark
@@ -114,7 +108,7 @@ hasChain f = leb (startOf f) (countAt f) && validChain (membersOf f)
 
 -- through all entries of the file
 abbrev pub scanned : List ℕ → Found
-scanned f = scanAll (startOf f) (bodyOf f)
+scanned f = scanAll (countAt f) (bodyOf f)
 
 -- the count tells how many entries there are
 abbrev pub hasCount : List ℕ → List Command → Bool
@@ -134,11 +128,11 @@ fault f =
       (cond (hasChain f) (orCount f (scanned f .commands) (scanned f .broken)) (Some 4))
       (Some 0))
 
--- entry n of these bytes, n from 1, as its offset and its bytes, if there is one; the first is at offset i
+-- entry n of these bytes, n from 1, as its offset and its bytes, if there is one; the bytes end at offset e
 abbrev pub entryAt : ℕ → ℕ → List ℕ → Option (ℕ × List ℕ)
-entryAt zero i bs = None
-entryAt (suc zero) i bs = cond (eqb (sizeOf bs) 0) None (Some (i, take (sizeOf bs) bs))
-entryAt (suc (suc n)) i bs = cond (eqb (sizeOf bs) 0) None (entryAt (suc n) (i + sizeOf bs) (rest bs))
+entryAt zero e bs = None
+entryAt (suc zero) e bs = cond (eqb (sizeOf bs) 0) None (Some (e - length bs, take (sizeOf bs) bs))
+entryAt (suc (suc n)) e bs = cond (eqb (sizeOf bs) 0) None (entryAt (suc n) e (rest bs))
 
 -- entry n of a list: the bytes of its n-th command, where the header and the entries before it end
 abbrev pub entryOf : List ℕ → List Command → ℕ → Option (ℕ × List ℕ)

@@ -48,7 +48,7 @@ impl Entry<'_> {
 impl<'a> Entries<'a> {
     /// The next entry, if there is one.
     pub fn next(&mut self) -> Option<Entry<'a>>
-        ensures answer { λ r. ⌜ shown r ≡ entryAt 1 (now (self .entry) .end - length (now (now (self .entry) .rest))) (now (now (self .entry) .rest)) ⌝ }
+        ensures answer { λ r. ⌜ shown r ≡ entryAt 1 (now (self .entry) .end) (now (now (self .entry) .rest)) ⌝ }
         ensures after { λ _. ⌜ now (now (self .exit) .rest) ≡ rest (now (now (self .entry) .rest)) ⌝ }
         ensures same { λ _. ⌜ now (self .exit) .end ≡ now (self .entry) .end ⌝ }
     {

@@ -4,6 +4,9 @@ mod entries;
 mod reading;
 mod writing;
 
+ghost use Rattle.command.specs.Members.{validChain};
+ghost use mathlib.Core.Path.{_≡_};
+use command::Chain;
 pub use entries::Entries;
 pub use entries::Entry;
 pub use reading::Broken;
@@ -20,3 +23,10 @@ const COUNT_BYTES: usize = 2;
 
 // How many bytes stand before the chain's members: the mark and the chain's length.
 const HEADER_BYTES: usize = 5;
+
+// Whether these members make a chain.
+fn is_chain(members: &[u8]) -> bool
+    ensures { λ r. ⌜ r ≡ validChain (now (members .entry)) ⌝ }
+{
+    Chain::new(members).is_ok()
+}

@@ -5,16 +5,21 @@ ghost use Rattle.archive.specs.Layout.{Archive};
 ghost use Rattle.archive.specs.Readers.{refusalNumber, shown, Reads, Opens, Exact, Counts};
 ghost use Rattle.archive.specs.Reading.{fault, hasMark, scanAll, entryAt, entryOf};
 ghost use Rattle.command.specs.declared.Command.{Command};
+ghost use Rattle.std.specs.shelf.Text.{sameBytes};
 ghost use lib.ListN.{length};
 ghost use mathlib.Core.List.{List};
 ghost use mathlib.Core.Path.{_≡_};
 use bytes::read_u16;
-use command::Chain;
 use crate::COUNT_BYTES;
 use crate::Entries;
 use crate::Entry;
 use crate::HEADER_BYTES;
 use crate::MARK;
+use crate::entries::size_of;
+use crate::is_chain;
+
+// The length of the shortest file: mark, a chain of one member, no entries, and the count.
+const SHORTEST: usize = 8;
 
 /// A file that was found whole, by its parts.
 #[derive(Clone, Copy)]
@@ -46,7 +51,10 @@ impl<'a> Reader<'a> {
         ensures opens { λ r. ⌜ Opens (now (file .entry)) (fault (now (file .entry))) r ⌝ }
         ensures exact { λ _. ⌜ Exact (now (file .entry)) ⌝ }
     {
-        if file.len() < 8 || !has_mark(file) {
+        if file.len() < SHORTEST {
+            return Err(Broken { offset: 0 });
+        }
+        if !has_mark(file) {
             return Err(Broken { offset: 0 });
         }
         let end = file.len() - COUNT_BYTES;
@@ -55,7 +63,7 @@ impl<'a> Reader<'a> {
             return Err(Broken { offset: 4 });
         }
         let members = &file[HEADER_BYTES..start];
-        if Chain::new(members).is_err() {
+        if !is_chain(members) {
             return Err(Broken { offset: 4 });
         }
         let body = &file[start..end];
@@ -90,7 +98,7 @@ impl<'a> Reader<'a> {
 
     /// Entry n, counted from 1, as its offset and its bytes, a part of the file, if there is one.
     pub fn entry(&self, n: usize) -> Option<Entry<'a>>
-        ensures answer { λ r. ⌜ shown r ≡ entryAt n (now (self .entry) .end - length (now (now (self .entry) .body))) (now (now (self .entry) .body)) ⌝ }
+        ensures answer { λ r. ⌜ shown r ≡ entryAt n (now (self .entry) .end) (now (now (self .entry) .body)) ⌝ }
         ensures meaning { λ r. ⌜ ((f ms : List ℕ) (cs : List Command) → Reads f (now (self .entry)) → Archive f ms cs → shown r ≡ entryOf ms cs n) ⌝ }
     {
         if n == 0 {
@@ -109,21 +117,29 @@ fn has_mark(file: &[u8]) -> bool
     requires { ⌜ 4 ≤ length (now file) ⌝ }
     ensures { λ r. ⌜ r ≡ hasMark (now (file .entry)) ⌝ }
 {
-    file[0] == MARK[0] && file[1] == MARK[1] && file[2] == MARK[2] && file[3] == MARK[3]
+    same_bytes(&file[0..4], &MARK)
 }
 
 // How many entries there are in these bytes, which end at this offset, or where the first broken one is.
 fn count_entries(body: &[u8], end: usize) -> Result<usize, Broken>
-    ensures { λ r. ⌜ Counts (scanAll (end - length (now (body .entry))) (now (body .entry))) r ⌝ }
+    ensures { λ r. ⌜ Counts (scanAll end (now (body .entry))) r ⌝ }
 {
-    let mut entries = Entries { rest: body, end };
+    let mut rest = body;
     let mut count = 0;
-    while !entries.rest.is_empty() {
-        let at = end.saturating_sub(entries.rest.len());
-        if entries.next().is_none() {
-            return Err(Broken { offset: at });
+    while !rest.is_empty() {
+        let size = size_of(rest);
+        if size == 0 {
+            return Err(Broken { offset: end.saturating_sub(rest.len()) });
         }
+        rest = &rest[size..];
         count += 1;
     }
     Ok(count)
+}
+
+// Whether two parts hold the same bytes.
+fn same_bytes(a: &[u8], b: &[u8]) -> bool
+    ensures { λ r. ⌜ r ≡ sameBytes (now (a .entry)) (now (b .entry)) ⌝ }
+{
+    a == b
 }

@@ -1,12 +1,12 @@
 //! The writer: an open archive that grows entry by entry and is spent by seal or strike.
 
 ghost use Prim.Native.Nat.{ℕ, _+_, _<_, _≤_};
-ghost use Rattle.archive.specs.Layout.{header, entry, entryAs};
+ghost use Rattle.archive.specs.Layout.{header, entry};
 ghost use Rattle.archive.specs.Writing.{refusalNumber, answer, left, beginRefusal, begun, addRefusal, grown};
 ghost use Rattle.archive.specs.Writing.{sealRefusal, sealed, hasRoom, Run, Sealed};
 ghost use Rattle.bytes.specs.Areas.{over};
 ghost use Rattle.bytes.specs.Numbers.{le};
-ghost use Rattle.command.specs.Commands.{wellFormed, Sized};
+ghost use Rattle.command.specs.Commands.{verbOf, wellFormed, serialBytes, Sized};
 ghost use Rattle.command.specs.declared.Command.{Command};
 ghost use Rattle.command.specs.declared.Verb.the-variants.{Change};
 ghost use Rattle.std.specs.Vec.{made};
@@ -18,7 +18,7 @@ ghost use mathlib.Core.Path.{_≡_};
 use bytes::write_bytes;
 use bytes::write_u16;
 use bytes::write_u8;
-use command::Chain;
+use command::Serial;
 use command::Command;
 use command::SERIAL_BYTES;
 use command::Verb;
@@ -26,6 +26,7 @@ use command::write_serial;
 use crate::COUNT_BYTES;
 use crate::HEADER_BYTES;
 use crate::MARK;
+use crate::is_chain;
 
 /// An archive that is being written: where its next part goes, and how many entries it has. It tells no length,
 /// and it cannot be let go: seal or strike ends it.
@@ -70,7 +71,7 @@ impl OpenArchive {
         ensures writes { λ _. ⌜ now (area .exit) ≡ left (beginRefusal (now (area .entry)) (now (members .entry))) (now (area .entry)) (over (now (area .entry)) 0 (header (now (members .entry)))) ⌝ }
         ensures run { λ r. ⌜ made r (λ o. Run (now (area .exit)) o (now (members .entry)) []) ⌝ }
     {
-        if Chain::new(members).is_err() {
+        if !is_chain(members) {
             return Err(Refusal::InvalidChain);
         }
         let at = HEADER_BYTES + members.len();
@@ -90,13 +91,14 @@ impl OpenArchive {
         if !command.is_well_formed() {
             return Err((self, Refusal::IllFormed));
         }
-        if self.count == u16::MAX {
+        if self.count >= u16::MAX {
             return Err((self, Refusal::Full));
         }
         let size = entry_size(command);
         if !has_room(area, self.at, size) {
             return Err((self, Refusal::NoSpace));
         }
+        know_widths(command.verb, command.origin, command.serial, command.a, command.b);
         let OpenArchive { at, count } = self;
         write_entry(area, at, command);
         Ok(OpenArchive { at: at + size, count: count + 1 })
@@ -141,6 +143,12 @@ fn has_room(area: &[u8], at: usize, size: usize) -> bool
 {
     let tail = size + COUNT_BYTES;
     tail <= area.len() && at <= area.len() - tail
+}
+
+// Does nothing: a number of a type lies within its width, which the proof of `add` needs of a command's fields.
+fn know_widths(verb: u8, origin: u16, serial: Serial, a: u16, b: u16)
+    ensures { λ _. ⌜ Sized (record { verb = verb; origin = origin; serial = serial; a = a; b = b }) ⌝ }
+{
 }
 
 // Writes mark, length and members.
@@ -194,8 +202,9 @@ fn write_membership(area: &mut [u8], at: usize, command: &Command)
 
 // Writes the entry of a change for the machine: all fields.
 fn write_change(area: &mut [u8], at: usize, command: &Command)
-    requires { ⌜ at + length (entryAs (Some Change) (now command)) ≤ length (now area) ⌝ }
-    ensures { λ _. ⌜ now (area .exit) ≡ over (now (area .entry)) at (entryAs (Some Change) (now (command .entry))) ⌝ }
+    requires kind { ⌜ verbOf (now command .verb) ≡ Some Change ⌝ }
+    requires within { ⌜ at + 7 + serialBytes ≤ length (now area) ⌝ }
+    ensures { λ _. ⌜ now (area .exit) ≡ over (now (area .entry)) at (entry (now (command .entry))) ⌝ }
 {
     write_u8(area, at, command.verb);
     write_u16(area, at + 1, command.origin);
