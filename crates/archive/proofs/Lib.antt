@@ -6,3 +6,4 @@ pub mod Writes
 pub mod Calls
 pub mod Walks
 pub mod Opening
+pub mod WholeLists

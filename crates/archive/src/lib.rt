@@ -1,6 +1,7 @@
 //! The archive file of a year: written once, read for decades.
 
 mod entries;
+mod lists;
 mod reading;
 mod writing;
 
@@ -9,10 +10,18 @@ ghost use mathlib.Core.Path.{_≡_};
 use command::Chain;
 pub use entries::Entries;
 pub use entries::Entry;
+pub use lists::ListRefusal;
+pub use lists::ListRefusalDebug;
+pub use lists::ListRefusalPartialEq;
+pub use lists::write_list;
 pub use reading::Broken;
+pub use reading::BrokenDebug;
+pub use reading::BrokenPartialEq;
 pub use reading::Reader;
 pub use writing::OpenArchive;
 pub use writing::Refusal;
+pub use writing::RefusalDebug;
+pub use writing::RefusalPartialEq;
 pub use writing::SealedArchive;
 
 /// The four bytes that every archive file begins with.
