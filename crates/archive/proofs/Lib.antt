@@ -7,3 +7,4 @@ pub mod Calls
 pub mod Walks
 pub mod Opening
 pub mod WholeLists
+pub mod Space

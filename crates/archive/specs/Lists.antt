@@ -1,20 +1,25 @@
 -- What writing a whole list comes to.
-use mathlib.Core.Bool.{cond}
+use mathlib.Core.Bool.{cond, true}
 use mathlib.Core.List.{List, [], _∷_}
 use mathlib.Core.Path.{_≡_}
-use Prim.Native.Nat.{ℕ, _+_}
+use Prim.Native.Nat.{ℕ, _+_, _*_, _≤_}
+use lib.Dec.{eqb, leb}
 use lib.ListN.{length, take, replicate}
 use Rattle.std.specs.declared.option.Option.{Option}
 use Rattle.std.specs.declared.option.Option.the-variants.{Some, None}
 use Rattle.std.specs.declared.result.Result.{Result}
 use Rattle.std.specs.declared.result.Result.the-variants.{Ok, Err}
+use Rattle.std.specs.shelf.Lists.{All}
 use Rattle.bytes.specs.Areas.{over}
 use Rattle.command.specs.declared.Command.{Command}
+use Rattle.command.specs.Commands.{wellFormed, serialBytes}
+use Rattle.command.specs.Members.{validChain}
 use Rattle.archive.specs.declared.lists.ListRefusal.{ListRefusal}
 use Rattle.archive.specs.declared.writing.OpenArchive.{OpenArchive}
 use Rattle.archive.specs.declared.writing.Refusal.{Refusal}
 use Rattle.archive.specs.declared.writing.SealedArchive.{SealedArchive}
-use Rattle.archive.specs.Layout.{header, entry, Archive}
+use Rattle.archive.specs.declared.writing.Refusal.the-variants.{Full}
+use Rattle.archive.specs.Layout.{header, entry, most, Archive}
 use Rattle.archive.specs.Writing.{beginRefusal, begun, addRefusal, grown}
 
 abbrev pub refused : ℕ → Refusal → ListRefusal
@@ -38,9 +43,20 @@ listRefusal area ms cs =
 
 -- the area where a list was refused: as it was where nothing was begun, else struck
 abbrev pub unwritten : ℕ → List ℕ → List ℕ
-unwritten n area = cond (lib.Dec.eqb n 0) area (replicate (length area) 0)
+unwritten n area = cond (eqb n 0) area (replicate (length area) 0)
 
 -- where no call is refused, the area begins with the archive of the list; else the answer is the first that was
 abbrev pub Wrote : List ℕ → List Command → List ℕ → List ℕ → Result SealedArchive ListRefusal → Type 0
 Wrote ms cs area exit (Ok s) = (listRefusal area ms cs ≡ None) × Archive (take (s .length) exit) ms cs
 Wrote ms cs area exit (Err e) = (listRefusal area ms cs ≡ Some e) × (exit ≡ unwritten (e .entry) area)
+
+-- as many bytes as the header, so many entries at their longest, and the count
+abbrev pub spaceFor : ℕ → ℕ → ℕ
+spaceFor members commands = commands * (7 + serialBytes) + (members + 7)
+
+-- With that much space a valid chain and well-formed commands are refused only for their number: the 65,536th entry.
+abbrev pub Enough-space : Type 0
+Enough-space =
+    (area ms : List ℕ) (cs : List Command) → spaceFor (length ms) (length cs) ≤ length area → validChain ms ≡ true
+    → All (λ c. wellFormed c ≡ true) cs
+    → listRefusal area ms cs ≡ cond (leb (length cs) most) None (Some (refused (most + 1) Full))

@@ -1,7 +1,15 @@
 //! A whole list at once.
 
-ghost use Rattle.archive.specs.Lists.{Wrote};
+ghost use Prim.Native.Nat.{_^_};
+ghost use Rattle.archive.specs.Lists.{Wrote, spaceFor, Enough-space};
+ghost use Rattle.std.specs.declared.option.Option.the-variants.{Some, None};
+ghost use lib.Dec.{ltb};
+ghost use mathlib.Core.Bool.{cond};
+ghost use mathlib.Core.Path.{_≡_};
 use command::Command;
+use command::SERIAL_BYTES;
+use crate::COUNT_BYTES;
+use crate::HEADER_BYTES;
 use crate::OpenArchive;
 use crate::Refusal;
 use crate::SealedArchive;
@@ -15,10 +23,21 @@ pub struct ListRefusal {
     pub refusal: Refusal,
 }
 
+/// How many bytes an area needs to have space for the archive of so many members and any so many commands, if that is
+/// a number of bytes that an area can have.
+pub fn space_for(members: usize, commands: usize) -> Option<usize>
+    ensures { λ r. ⌜ r ≡ cond (ltb (spaceFor members commands) (2 ^ 64)) (Some (spaceFor members commands)) None ⌝ }
+{
+    let entries = commands.checked_mul(7 + SERIAL_BYTES)?;
+    let ends = members.checked_add(HEADER_BYTES + COUNT_BYTES)?;
+    entries.checked_add(ends)
+}
+
 /// Writes the archive of this chain and these commands at the front of the area: begin, an add for each, and seal.
 /// Where an entry is refused, the archive is struck.
 pub fn write_list(area: &mut [u8], members: &[u8], commands: &[Command]) -> Result<SealedArchive, ListRefusal>
-    ensures { λ r. ⌜ Wrote (now (members .entry)) (now (commands .entry)) (now (area .entry)) (now (area .exit)) r ⌝ }
+    ensures wrote { λ r. ⌜ Wrote (now (members .entry)) (now (commands .entry)) (now (area .entry)) (now (area .exit)) r ⌝ }
+    ensures space { λ _. ⌜ Enough-space ⌝ }
 {
     let mut open = match OpenArchive::begin(area, members) {
         Ok(open) => open,

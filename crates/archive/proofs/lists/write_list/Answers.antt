@@ -14,6 +14,7 @@ use Rattle.archive.specs.Layout.{header, entry, Archive}
 use Rattle.archive.specs.Lists.{refused, atEntry, addsRefusal, listRefusal}
 use Rattle.archive.specs.Writing.{beginRefusal, begun, addRefusal, left, Run}
 use Rattle.archive.proofs.Calls.{answer-ok, answer-err}
+use Rattle.archive.proofs.Space.{enough-space}
 use Rattle.archive.proofs.WholeLists.{adds-more, adds-stop, adds-end, at-some, left-none, left-some, begun-list}
 use Rattle.archive.proofs.lists.write_list.Needs as need
 
@@ -32,12 +33,15 @@ returns-in-Err-add c =
             ap (refused (i + 1)) (sym (ap (λ (p : OpenArchive × Refusal). p .1) (e .2))) in
     let long : length (c .add .last .area) ≡ length (c .args .area .now) = omega arith in
     let struck : i + 1 ≡ 0 → ⊥ = λ z. omega arith in
-    (begun-list (c .args .area .now) (c .args .members .now) cs (c .begin .last .area) (c .in-Ok .open) (ok .0)
-        (c .in-Ok .ensures tt .writes) (ok .1)
-     ∙ sym (c .loop-i .inv .1)
-     ∙ adds-stop (c .loop-i .area) (c .loop-i .open) (i + 1) cs i blank (omega arith) (e .0) (e .1) ∙ ap Some same,
-     c .strike .ensures ∙ ap (λ (n : ℕ). replicate n 0) long
-     ∙ sym (cond-false _ (c .args .area .now) _ (ne-eqb (i + 1) 0 struck)))
+    record {
+      wrote = (begun-list (c .args .area .now) (c .args .members .now) cs (c .begin .last .area) (c .in-Ok .open) (ok .0)
+              (c .in-Ok .ensures tt .writes) (ok .1)
+           ∙ sym (c .loop-i .inv .1)
+           ∙ adds-stop (c .loop-i .area) (c .loop-i .open) (i + 1) cs i blank (omega arith) (e .0) (e .1) ∙ ap Some same,
+           c .strike .ensures ∙ ap (λ (n : ℕ). replicate n 0) long
+           ∙ sym (cond-false _ (c .args .area .now) _ (ne-eqb (i + 1) 0 struck)));
+      space = enough-space
+    }
 
 pub loop-i-again : need.loop-i-again
 unfolding blank
@@ -60,8 +64,11 @@ loop-i-holds c = (c .in-Ok .ensures tt .run, refl, refl)
 pub returns-in-Err : need.returns-in-Err
 returns-in-Err c =
     let e = answer-err _ _ (c .in-Err .refusal) _ (c .in-Err .ensures tt .answer) in
-    (at-some 0 _ _ (e .0) (e .1) ∙ ap (λ r. Some (refused 0 r)) (sym (e .2)),
-     left-some _ (c .args .area .now) _ (c .begin .last .area) (e .0) (c .in-Err .ensures tt .writes) (e .1))
+    record {
+      wrote = (at-some 0 _ _ (e .0) (e .1) ∙ ap (λ r. Some (refused 0 r)) (sym (e .2)),
+           left-some _ (c .args .area .now) _ (c .begin .last .area) (e .0) (c .in-Err .ensures tt .writes) (e .1));
+      space = enough-space
+    }
 
 pub returns : need.returns
 returns c =
@@ -71,6 +78,9 @@ returns c =
     let all = take-all (c .loop-i .i) cs (omega arith) in
     let end = answer-ok _ _ (c .in-Ok-seal .sealed) _ (c .in-Ok-seal .ensures tt .answer) in
     let law = c .in-Ok-seal .ensures tt .run (c .args .members .now) (take (c .loop-i .i) cs) (c .loop-i .inv .0) in
-    (begun-list area (c .args .members .now) cs (c .begin .last .area) (c .in-Ok .open) (ok .0) (c .in-Ok .ensures tt .writes) (ok .1)
-     ∙ sym (c .loop-i .inv .1) ∙ adds-end (c .loop-i .area) (c .loop-i .open) (c .loop-i .i + 1) cs (c .loop-i .i) (omega arith),
-     rw (end .1, ← all) (law .file))
+    record {
+      wrote = (begun-list area (c .args .members .now) cs (c .begin .last .area) (c .in-Ok .open) (ok .0) (c .in-Ok .ensures tt .writes) (ok .1)
+           ∙ sym (c .loop-i .inv .1) ∙ adds-end (c .loop-i .area) (c .loop-i .open) (c .loop-i .i + 1) cs (c .loop-i .i) (omega arith),
+           rw (end .1, ← all) (law .file));
+      space = enough-space
+    }
