@@ -1,2 +1,4 @@
 pub mod Cutting
 pub mod Figures
+pub mod Lined
+pub mod Whole

@@ -1,6 +1,6 @@
 //! Why a text is no list.
 
-ghost use Rattle.listing.specs.declared.faults.Fault.the-variants.{Memory};
+ghost use Rattle.listing.specs.declared.faults.Fault.the-variants.{InvalidChain, Memory};
 ghost use Rattle.listing.specs.Answers.{faultNumber};
 ghost use mathlib.Core.Path.{_≡_};
 use std::alloc::AllocError;
@@ -55,5 +55,13 @@ pub impl From<fmt::Error> for Fault as FaultFromFmt {
 
     fn from(_e: fmt::Error) -> Fault {
         Fault::Memory
+    }
+}
+
+pub impl From<command::InvalidChain> for Fault as FaultFromChain {
+    ghost converts = { λ _ r. r ≡ InvalidChain };
+
+    fn from(_e: command::InvalidChain) -> Fault {
+        Fault::InvalidChain
     }
 }

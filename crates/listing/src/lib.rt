@@ -3,7 +3,11 @@
 mod cuts;
 mod entries;
 mod faults;
+mod lists;
 mod numerals;
 
 pub use entries::read_entry;
 pub use faults::Fault;
+pub use faults::FaultFromAlloc;
+pub use lists::YearList;
+pub use lists::read_list;
