@@ -105,14 +105,14 @@ abbrev pub entriesFrom : ℕ → List (List ℕ) → Result (List Command) Fault
 entriesFrom n [] = Ok []
 entriesFrom n (l ∷ ls) = judged n (readEntry l) (entriesFrom (n + 1) ls)
 
-abbrev pub listed : List ℕ → Result (List Command) Fault → Result Listed Fault
-listed ms (Ok cs) = Ok (record { chain = founded ms; commands = cs })
-listed ms (Err f) = Err f
+abbrev pub listed : Membership → Result (List Command) Fault → Result Listed Fault
+listed m (Ok cs) = Ok (record { chain = m; commands = cs })
+listed m (Err f) = Err f
 
 -- the first line is a chain, then come the entries
 abbrev pub chained : Option (List ℕ) → List (List ℕ) → Result Listed Fault
 chained None ls = Err (Unreadable 1)
-chained (Some ms) ls = cond (validChain ms) (listed ms (entriesFrom 2 ls)) (Err InvalidChain)
+chained (Some ms) ls = cond (validChain ms) (listed (founded ms) (entriesFrom 2 ls)) (Err InvalidChain)
 
 abbrev pub readLines : List (List ℕ) → Result Listed Fault
 readLines [] = Err (Unreadable 1)

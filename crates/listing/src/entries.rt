@@ -34,7 +34,7 @@ pub fn read_entry(line: &[u8]) -> Option<Command>
 fn read_member(mut words: Words, verb: u8) -> Option<Command>
     ensures { λ r. ⌜ r ≡ memberOf verb (wordsLeft (words .entry)) ⌝ }
 {
-    let a = read_field(&mut words, u64::from(u16::MAX))? as u16;
+    let a = read_field(&mut words, u16::MAX as u64)? as u16;
     end(words, Command { verb, origin: 0, serial: 0, a, b: 0 })
 }
 
@@ -42,11 +42,11 @@ fn read_member(mut words: Words, verb: u8) -> Option<Command>
 fn read_change(mut words: Words) -> Option<Command>
     ensures { λ r. ⌜ r ≡ changeOf (wordsLeft (words .entry)) ⌝ }
 {
-    let verb = read_field(&mut words, u64::from(u8::MAX))? as u8;
-    let origin = read_field(&mut words, u64::from(u16::MAX))? as u16;
+    let verb = read_field(&mut words, u8::MAX as u64)? as u8;
+    let origin = read_field(&mut words, u16::MAX as u64)? as u16;
     let serial = read_field(&mut words, Serial::MAX as u64)? as Serial;
-    let a = read_field(&mut words, u64::from(u16::MAX))? as u16;
-    let b = read_field(&mut words, u64::from(u16::MAX))? as u16;
+    let a = read_field(&mut words, u16::MAX as u64)? as u16;
+    let b = read_field(&mut words, u16::MAX as u64)? as u16;
     end(words, Command { verb, origin, serial, a, b })
 }
 

@@ -1,10 +1,12 @@
 //! A whole text as a list.
 
-ghost use Rattle.listing.specs.Answers.{Tells, listOf, membersTold, chainTold, directorByte, linesLeft};
-ghost use Rattle.listing.specs.Reading.{readChain, readText, entriesFrom};
+ghost use Rattle.listing.specs.Answers.{Tells, listOf, membersTold, chainTold, directorByte, linesLeft, wordsLeft};
+ghost use Rattle.listing.specs.Reading.{readChain, readText, entriesFrom, someDirectors};
 ghost use Rattle.command.specs.Chains.{membership};
 ghost use Rattle.std.specs.Of.Vec.{vec-items};
 ghost use mathlib.Core.Path.{_≡_};
+ghost use Prim.Native.Nat.{_+_, _^_, _<_};
+ghost use lib.ListN.{length};
 use crate::Fault;
 use crate::cuts::Lines;
 use crate::cuts::Words;
@@ -53,12 +55,19 @@ fn read_members(heap: Global, line: &[u8]) -> Result<Vec<u8>, Fault>
     let Some(first) = words.next() else {
         return Err(Fault::Unreadable { line: 1 });
     };
-    if first != b"chain" {
-        return Err(Fault::Unreadable { line: 1 });
+    if first == b"chain" {
+        return read_directors(heap, words);
     }
+    Err(Fault::Unreadable { line: 1 })
+}
+
+// The directors after the first line's first word.
+fn read_directors(heap: Global, mut words: Words) -> Result<Vec<u8>, Fault>
+    ensures { λ r. ⌜ Tells vec-items r (membersTold (someDirectors (wordsLeft (words .entry)))) ⌝ }
+{
     let mut members = Vec::new(heap);
     while let Some(word) = words.next() {
-        let Some(number) = read_number(word, u64::from(u16::MAX)) else {
+        let Some(number) = read_number(word, u16::MAX as u64) else {
             return Err(Fault::Unreadable { line: 1 });
         };
         members.push(director_byte(number))?;
@@ -78,11 +87,13 @@ fn director_byte(number: u64) -> u8
 
 // The commands of the lines after the first.
 fn read_entries(heap: Global, mut lines: Lines) -> Result<Vec<Command>, Fault>
+    requires { ⌜ 1 + length (linesLeft lines) < 2 ^ 64 ⌝ }
     ensures { λ r. ⌜ Tells vec-items r (entriesFrom 2 (linesLeft (lines .entry))) ⌝ }
 {
     let mut commands = Vec::new(heap);
-    let mut line: usize = 2;
+    let mut line: usize = 1;
     while let Some(bytes) = lines.next() {
+        line += 1;
         let Some(command) = read_entry(bytes) else {
             return Err(Fault::Unreadable { line });
         };
@@ -90,7 +101,6 @@ fn read_entries(heap: Global, mut lines: Lines) -> Result<Vec<Command>, Fault>
             return Err(Fault::IllFormed { line });
         }
         commands.push(command)?;
-        line += 1;
     }
     Ok(commands)
 }
