@@ -5,9 +5,12 @@ mod entries;
 mod faults;
 mod lists;
 mod numerals;
+mod writes;
 
 pub use entries::read_entry;
 pub use faults::Fault;
 pub use faults::FaultFromAlloc;
 pub use lists::YearList;
 pub use lists::read_list;
+pub use writes::write_chain;
+pub use writes::write_entry;

@@ -2,6 +2,7 @@
 
 ghost use Rattle.listing.specs.Answers.{Tells, listOf, membersTold, chainTold, directorByte, linesLeft, wordsLeft};
 ghost use Rattle.listing.specs.Reading.{readChain, readText, entriesFrom, someDirectors};
+ghost use Rattle.listing.specs.Law.{Reads-back};
 ghost use Rattle.command.specs.Chains.{membership};
 ghost use Rattle.std.specs.Of.Vec.{vec-items};
 ghost use mathlib.Core.Path.{_≡_};
@@ -26,8 +27,16 @@ pub struct YearList {
     pub commands: Vec<Command>,
 }
 
-/// The list that a text tells, or the first line that is at fault.
+/// The list that a text tells, or the first line that is at fault. A list that was written is read back as it was.
 pub fn read_list(heap: Global, text: &[u8]) -> Result<YearList, Fault>
+    ensures answer { λ r. ⌜ Tells listOf r (readText (now (text .entry))) ⌝ }
+    ensures back { λ r. ⌜ Reads-back (now (text .entry)) r ⌝ }
+{
+    read_text(heap, text)
+}
+
+// The list that a text tells.
+fn read_text(heap: Global, text: &[u8]) -> Result<YearList, Fault>
     ensures { λ r. ⌜ Tells listOf r (readText (now (text .entry))) ⌝ }
 {
     let mut lines = Lines { rest: text };

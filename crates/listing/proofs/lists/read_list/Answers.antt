@@ -1,37 +1,15 @@
-use mathlib.Core.Path.{sym, ap, refl}
-use native.Mathlib.Omega.{arith}
-use Rattle.std.proofs.shelf.Results.{err-from-errBy}
-use lib.ListN.{length}
-use Rattle.listing.specs.Answers.{linesLeft}
-use Rattle.listing.specs.Reading.{readChain}
-use Rattle.listing.proofs.Cutting.{length-lines}
-use Rattle.listing.proofs.Whole.{text-none, text-from, chain-fault, entry-fault, text-list}
+use mathlib.Core.Path.{ap, _∙_}
+use mathlib.Core.Bool.{cond}
+use Rattle.std.specs.declared.result.Result.the-variants.{Err}
+use Rattle.listing.specs.declared.faults.Fault.the-variants.{Memory}
+use Rattle.listing.specs.Answers.{spent}
+use Rattle.listing.specs.Reading.{readText}
+use Rattle.listing.proofs.ReadBack.{text-back}
 use Rattle.listing.proofs.lists.read_list.Needs as need
 
-pub returns-in-rest : need.returns-in-rest
-returns-in-rest c = sym (text-none (c .args .text .now) _ refl (c .in-rest .ensures tt .0))
-
-pub returns-in-Break-chain : need.returns-in-Break-chain
-returns-in-Break-chain c =
-    let p = err-from-errBy (c .from-residual .result) (c .from-residual .ensures .1) in
-    rw (p .1, p .2)
-    (chain-fault _ (readChain (c .in-Some .first .now)) (linesLeft (c .next .last .self)) _
-     (text-from (c .args .text .now) _ _ _ refl (c .in-Some .ensures tt)) (c .in-Break-chain .ensures tt))
-
-pub returns-in-Break-commands : need.returns-in-Break-commands
-returns-in-Break-commands c =
-    let p = err-from-errBy (c .from-residual-in-Break-commands .result) (c .from-residual-in-Break-commands .ensures .1) in
-    rw (p .1, p .2)
-    (entry-fault _ (readChain (c .in-Some .first .now)) (linesLeft (c .next .last .self)) _ _
-     (text-from (c .args .text .now) _ _ _ refl (c .in-Some .ensures tt))
-     (c .in-Continue-chain .ensures tt) (c .in-Break-commands .ensures tt))
-
 pub returns : need.returns
-returns c =
-    text-list _ (readChain (c .in-Some .first .now)) (linesLeft (c .next .last .self)) _ _
-     (text-from (c .args .text .now) _ _ _ refl (c .in-Some .ensures tt))
-    (c .in-Continue-chain .ensures tt) (c .in-Continue-commands .ensures tt)
-
-pub read-entries-requires : need.read-entries-requires
-read-entries-requires c κs =
-    omega (arith, length-lines (c .args .text .now), ap length (c .in-Some .ensures tt))
+returns c = record {
+    answer = c .read-text .ensures;
+    back = λ ms cs v h e.
+        c .read-text .ensures ∙
+        ap (λ x. cond (spent (c .read-text .result)) (Err Memory) x) (ap readText e ∙ text-back ms cs v h) }
