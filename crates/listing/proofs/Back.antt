@@ -85,9 +85,9 @@ pub numeral-back : (max n : ℕ) → n ≤ max → n < 2 ^ 64 → numeral max (d
 numeral-back max n h s =
     let v = value-decimal own n s in
     let p : plain (decimal n) ≡ true =
-        plain-from (decimal n) (digits-decimal own n s) (decimal-some n s)
-        (λ z. ⊎-elim (λ l. absurd (omega (arith, first-decimal n l s)))
-            (λ g. zero-once n (omega (arith, g))) (cases-lt 0 n)) in
+    plain-from (decimal n) (digits-decimal own n s) (decimal-some n s)
+    (λ z. ⊎-elim (λ l. absurd (omega (arith, first-decimal n l s)))
+    (λ g. zero-once n (omega (arith, g))) (cases-lt 0 n)) in
     rw (decimal-is n s, p, v, le-leb n max h) refl
 
 -- numbers that are small enough, and the words that they make

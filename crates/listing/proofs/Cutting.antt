@@ -42,7 +42,7 @@ pub place-here : (b i : ℕ) (cs : List ℕ) → i < length cs → getD cs i 0 �
     placeOf b cs ≡ i + placeOf b (drop i cs) → i ≡ placeOf b cs
 place-here b i cs l e h =
     let m : placeOf b (drop i cs) ≡ cond (eqb (getD cs i 0) b) 0 (suc (placeOf b (drop (i + 1) cs)))
-        = at-drop-more (placeOf b) cs i 0 l in
+    = at-drop-more (placeOf b) cs i 0 l in
     let z : placeOf b (drop i cs) ≡ 0 = m ∙ cond-true _ _ _ (eq-eqb _ _ e) in
     omega arith
 
@@ -50,7 +50,7 @@ pub place-more : (b i : ℕ) (cs : List ℕ) → i < length cs → (getD cs i 0 
     placeOf b cs ≡ i + placeOf b (drop i cs) → placeOf b cs ≡ (i + 1) + placeOf b (drop (i + 1) cs)
 place-more b i cs l e h =
     let m : placeOf b (drop i cs) ≡ cond (eqb (getD cs i 0) b) 0 (suc (placeOf b (drop (i + 1) cs)))
-        = at-drop-more (placeOf b) cs i 0 l in
+    = at-drop-more (placeOf b) cs i 0 l in
     let z : placeOf b (drop i cs) ≡ suc (placeOf b (drop (i + 1) cs)) = m ∙ cond-false _ _ _ (ne-eqb _ _ e) in
     omega arith
 

@@ -31,14 +31,14 @@ valueFrom-is : (max n : ℕ) (cs : List ℕ) → n ≤ max →
 valueFrom-is max n [] h = rw (le-leb n max h) refl
 valueFrom-is max n (c ∷ cs) h =
     ⊎-elim (λ d. rw d (
-        ⊎-elim (λ e. rw e (valueFrom-is max (n * 10 + (c - 48)) cs (leb-true _ _ e)))
-            (λ e. rw e (
-                let big = readOn-ge (n * 10 + (c - 48)) cs in
-                let g = leb-false _ _ e in
-                let f : leb (readOn (n * 10 + (c - 48)) cs) max ≡ false = lt-leb _ _ (omega arith) in
-                rw f (none (allDigits cs) _)))
-            (cases-bool (leb (n * 10 + (c - 48)) max))))
-        (λ d. rw d refl) (cases-bool (asciiDigit c))
+    ⊎-elim (λ e. rw e (valueFrom-is max (n * 10 + (c - 48)) cs (leb-true _ _ e)))
+    (λ e. rw e (
+    let big = readOn-ge (n * 10 + (c - 48)) cs in
+    let g = leb-false _ _ e in
+    let f : leb (readOn (n * 10 + (c - 48)) cs) max ≡ false = lt-leb _ _ (omega arith) in
+    rw f (none (allDigits cs) _)))
+    (cases-bool (leb (n * 10 + (c - 48)) max))))
+    (λ d. rw d refl) (cases-bool (asciiDigit c))
   where
     none : (b : Bool) (x : ℕ) → _≡_ {A = Option ℕ} None (cond (b && false) (Some x) None)
     none true x = refl

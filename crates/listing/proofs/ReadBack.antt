@@ -51,10 +51,14 @@ change-back : (v o s a b : ℕ) → v ≤ max8 → o ≤ max16 → s ≤ maxSeri
 unfolding readEntry
 change-back v o s a b hv ho hs ha hb =
     ap entryOf (words-back (codes "change") (v ∷ o ∷ s ∷ a ∷ b ∷ []) refl
-        (omega arith, (omega arith, (omega arith, (omega arith, (omega arith, tt)))))) ∙
-    simp (numeral-back max8 v hv (omega arith), numeral-back max16 o ho (omega arith),
-        numeral-back maxSerial s hs (omega arith), numeral-back max16 a ha (omega arith),
-        numeral-back max16 b hb (omega arith))
+    (omega arith, (omega arith, (omega arith, (omega arith, (omega arith, tt)))))) ∙
+    simp (
+      numeral-back max8 v hv (omega arith),
+      numeral-back max16 o ho (omega arith),
+      numeral-back maxSerial s hs (omega arith),
+      numeral-back max16 a ha (omega arith),
+      numeral-back max16 b hb (omega arith),
+    )
 
 -- a command whose verb uses no other field has nothing there
 plain-fields : (v w o s a b : ℕ) → v ≡ w → untold (command v o s a b) ≡ true → command w 0 0 a 0 ≡ command v o s a b
@@ -80,29 +84,29 @@ form-noop c h e =
 form-add : (c : Command) → wellFormed c ≡ true → eqb (c .verb) 0 ≡ false → eqb (c .verb) 1 ≡ true → Form c
 form-add c h n e =
     let w : (untold c && leb (c .a) 31) ≡ true =
-        sym (ap (λ k. fits k c) (cond-false _ (Some Noop) _ n ∙ cond-true _ (Some Add) _ e)) ∙ h in
+    sym (ap (λ k. fits k c) (cond-false _ (Some Noop) _ n ∙ cond-true _ (Some Add) _ e)) ∙ h in
     add (cond-false _ _ _ n ∙ cond-true _ _ _ e)
     (plain-fields (c .verb) 1 (c .origin) (c .serial) (c .a) (c .b) (eqb-true _ _ e)
-        (and-parts (untold c) (leb (c .a) 31) w .0))
+    (and-parts (untold c) (leb (c .a) 31) w .0))
 
 form-remove : (c : Command) → wellFormed c ≡ true → eqb (c .verb) 0 ≡ false → eqb (c .verb) 1 ≡ false →
     eqb (c .verb) 2 ≡ true → Form c
 form-remove c h n m e =
     let w : (untold c && leb (c .a) 31) ≡ true =
-        sym (ap (λ k. fits k c) (cond-false _ (Some Noop) _ n ∙ cond-false _ (Some Add) _ m ∙
-            cond-true _ (Some Remove) _ e)) ∙ h in
+    sym (ap (λ k. fits k c) (cond-false _ (Some Noop) _ n ∙ cond-false _ (Some Add) _ m ∙
+    cond-true _ (Some Remove) _ e)) ∙ h in
     remove (cond-false _ _ _ n ∙ cond-false _ _ _ m ∙ cond-true _ _ _ e)
     (plain-fields (c .verb) 2 (c .origin) (c .serial) (c .a) (c .b) (eqb-true _ _ e)
-        (and-parts (untold c) (leb (c .a) 31) w .0))
+    (and-parts (untold c) (leb (c .a) 31) w .0))
 
 form : (c : Command) → wellFormed c ≡ true → Form c
 form c h =
     ⊎-elim (form-noop c h)
     (λ n. ⊎-elim (form-add c h n)
-        (λ m. ⊎-elim (form-remove c h n m)
-            (λ l. change (cond-false _ _ _ n ∙ cond-false _ _ _ m ∙ cond-false _ _ _ l))
-            (cases-bool (eqb (c .verb) 2)))
-        (cases-bool (eqb (c .verb) 1)))
+    (λ m. ⊎-elim (form-remove c h n m)
+    (λ l. change (cond-false _ _ _ n ∙ cond-false _ _ _ m ∙ cond-false _ _ _ l))
+    (cases-bool (eqb (c .verb) 2)))
+    (cases-bool (eqb (c .verb) 1)))
     (cases-bool (eqb (c .verb) 0))
 
 pub entry-back : (c : Command) → Listable c → readEntry (lineOf c) ≡ Some c
@@ -130,9 +134,16 @@ entry-lacks c h = by (form c (h .well))
         ap (lacks 10) p ∙ line-lacks (codes "remove") (c .a ∷ []) refl (omega (arith, h .a), tt)
     by (change p) =
         ap (lacks 10) p ∙
-        line-lacks (codes "change") (c .verb ∷ c .origin ∷ c .serial ∷ c .a ∷ c .b ∷ []) refl
-            (omega (arith, h .verb), (omega (arith, h .origin), (omega (arith, h .serial),
-                (omega (arith, h .a), (omega (arith, h .b), tt)))))
+        line-lacks (codes "change") (c .verb ∷ c .origin ∷ c .serial ∷ c .a ∷ c .b ∷ []) refl (
+          omega (arith, h .verb),
+          (
+            omega (arith, h .origin),
+            (
+              omega (arith, h .serial),
+              (omega (arith, h .a), (omega (arith, h .b), tt)),
+            ),
+          ),
+        )
 
 -- the chain
 small-directors : (ms : List ℕ) → differentDirectors ms ≡ true → All (λ m. m ≤ 31) ms
@@ -149,7 +160,7 @@ directors-back : (ms : List ℕ) → All (λ m. m ≤ 31) ms → directors (map 
 directors-back [] h = refl
 directors-back (m ∷ ms) h =
     ap (λ x. then x (λ d. then (directors (map decimalOf ms)) (λ ds. Some (d ∷ ds))))
-        (numeral-back max16 m (omega (arith, h .0)) (omega (arith, h .0))) ∙
+    (numeral-back max16 m (omega (arith, h .0)) (omega (arith, h .0))) ∙
     ap (λ x. then x (λ ds. Some (m ∷ ds))) (directors-back ms (h .1))
 
 some-back : (ms : List ℕ) → 1 ≤ length ms → All (λ m. m ≤ 31) ms → someDirectors (map decimalOf ms) ≡ Some ms

@@ -51,9 +51,9 @@ pub entries-more : (n : ℕ) (l : List ℕ) (all ls : List (List ℕ)) (c : Comm
     o ≡ after cs (entriesFrom n all) → o ≡ after es (entriesFrom (n + 1) ls)
 entries-more n l all ls c cs es o p q s t e =
     let u : judged n (readEntry l) (entriesFrom (n + 1) ls) ≡ judged n (Some c) (entriesFrom (n + 1) ls)
-        = ap (λ x. judged n x (entriesFrom (n + 1) ls)) (sym p) in
+    = ap (λ x. judged n x (entriesFrom (n + 1) ls)) (sym p) in
     let v : judged n (Some c) (entriesFrom (n + 1) ls) ≡ before c (entriesFrom (n + 1) ls)
-        = cond-true (wellFormed c) (before c (entriesFrom (n + 1) ls)) (Err (IllFormed n)) (sym q) in
+    = cond-true (wellFormed c) (before c (entriesFrom (n + 1) ls)) (Err (IllFormed n)) (sym q) in
     e ∙ ap (λ x. after cs (entriesFrom n x)) s ∙ ap (after cs) (u ∙ v) ∙ after-push cs c (entriesFrom (n + 1) ls) ∙
     ap (λ x. after x (entriesFrom (n + 1) ls)) (sym t)
 
@@ -91,7 +91,6 @@ members-end all bs left s e =
     some-told : (o : Option (List ℕ)) → bytes o ≡ Some bs → Ok bs ≡ membersTold o
     some-told None e = let z : _≡_ {A = ℕ} 0 1 = cc in absurd (omega arith)
     some-told (Some ds) e = cc
-
 
 -- a chain as it was made, with the fault for its refusal
 abbrev pub fromNumber : Result Membership ℕ → Result Membership Fault
@@ -139,11 +138,11 @@ bytes-differ [] = refl
 bytes-differ (m ∷ ms) =
     ⊎-elim
     (λ e. ⊎-elim
-        (λ d. let b : directorByte m ≡ m = cond-true (leb m 31) m 255 e in rw (b, bytes-same ms d) refl)
-        (λ d. let b : directorByte m ≡ m = cond-true (leb m 31) m 255 e in
-            let f : differentDirectors (map directorByte ms) ≡ false = bytes-differ ms ∙ d in
-            rw (b, f, d) (both (leb m 31) _ _))
-        (cases-bool (differentDirectors ms)))
+    (λ d. let b : directorByte m ≡ m = cond-true (leb m 31) m 255 e in rw (b, bytes-same ms d) refl)
+    (λ d. let b : directorByte m ≡ m = cond-true (leb m 31) m 255 e in
+    let f : differentDirectors (map directorByte ms) ≡ false = bytes-differ ms ∙ d in
+    rw (b, f, d) (both (leb m 31) _ _))
+    (cases-bool (differentDirectors ms)))
     (λ e. let b : directorByte m ≡ 255 = cond-false (leb m 31) m 255 e in rw (b, e) refl) (cases-bool (leb m 31))
   where
     both : (c a b : Bool) → (c && a && false) ≡ (c && b && false)
@@ -164,10 +163,10 @@ chain-told (Some ms) bs r p q =
     let f : r ≡ founding (map directorByte ms) = q ∙ ap founding b in
     ⊎-elim
     (λ e. cond-true (validChain ms) (Ok (founded ms)) (Err InvalidChain) e ∙
-        sym (ap fromNumber (f ∙ ap founding (bytes-same ms (different ms e)) ∙
-            cond-true (validChain ms) (Ok (founded ms)) (Err 11) e)))
+    sym (ap fromNumber (f ∙ ap founding (bytes-same ms (different ms e)) ∙
+    cond-true (validChain ms) (Ok (founded ms)) (Err 11) e)))
     (λ e. cond-false (validChain ms) (Ok (founded ms)) (Err InvalidChain) e ∙
-        sym (ap fromNumber (f ∙ cond-false (validChain (map directorByte ms)) _ (Err 11) (bytes-valid ms ∙ e))))
+    sym (ap fromNumber (f ∙ cond-false (validChain (map directorByte ms)) _ (Err 11) (bytes-valid ms ∙ e))))
     (cases-bool (validChain ms))
   where
     different : (ms : List ℕ) → validChain ms ≡ true → differentDirectors ms ≡ true
@@ -196,8 +195,8 @@ chained-err None ls f e = cc
 chained-err (Some ms) ls f e =
     ⊎-elim (λ v. let g : Err f ≡ Ok (founded ms) = rw v at e in let z : _≡_ {A = ℕ} 0 1 = cc in absurd (omega arith))
     (λ v. let g : _≡_ {A = Result Membership Fault} (Err f) (Err InvalidChain) = rw v at e in
-        let h : f ≡ InvalidChain = cc in
-        ap Err h ∙ sym (cond-false (validChain ms) (listed (founded ms) (entriesFrom 2 ls)) (Err InvalidChain) v))
+    let h : f ≡ InvalidChain = cc in
+    ap Err h ∙ sym (cond-false (validChain ms) (listed (founded ms) (entriesFrom 2 ls)) (Err InvalidChain) v))
     (cases-bool (validChain ms))
 
 chained-ok : (o : Option (List ℕ)) (ls : List (List ℕ)) (m : Membership) → Ok m ≡ chainTold o →
@@ -206,8 +205,8 @@ chained-ok None ls m e = let z : _≡_ {A = ℕ} 0 1 = cc in absurd (omega arith
 chained-ok (Some ms) ls m e =
     ⊎-elim
     (λ v. let g : _≡_ {A = Result Membership Fault} (Ok m) (Ok (founded ms)) = rw v at e in
-        let h : founded ms ≡ m = cc in
-        cond-true (validChain ms) _ (Err InvalidChain) v ∙ ap (λ x. listed x (entriesFrom 2 ls)) h)
+    let h : founded ms ≡ m = cc in
+    cond-true (validChain ms) _ (Err InvalidChain) v ∙ ap (λ x. listed x (entriesFrom 2 ls)) h)
     (λ v. let g : Ok m ≡ Err InvalidChain = rw v at e in let z : _≡_ {A = ℕ} 0 1 = cc in absurd (omega arith))
     (cases-bool (validChain ms))
 

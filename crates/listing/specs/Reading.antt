@@ -52,7 +52,7 @@ memberOf v ws = field max16 ws (λ d ws₁. ended ws₁ (command v 0 0 d 0))
 abbrev pub changeOf : List (List ℕ) → Option Command
 changeOf ws =
     field max8 ws (λ v ws₁. field max16 ws₁ (λ o ws₂. field maxSerial ws₂ (λ s ws₃.
-        field max16 ws₃ (λ a ws₄. field max16 ws₄ (λ b ws₅. ended ws₅ (command v o s a b))))))
+    field max16 ws₃ (λ a ws₄. field max16 ws₄ (λ b ws₅. ended ws₅ (command v o s a b))))))
 
 -- the command of a line's words, by the first of them
 abbrev pub entryOf : List (List ℕ) → Option Command

@@ -7,6 +7,7 @@ ghost use Prim.Native.Nat.{_≤_};
 ghost use lib.ListN.{length};
 
 const NEWLINE: u8 = 10;
+
 const SPACE: u8 = 32;
 
 /// The lines of a text that are still to come.
@@ -46,7 +47,10 @@ impl<'a> Words<'a> {
     pub fn of(line: &'a [u8]) -> Words<'a>
         ensures { λ r. ⌜ wordsLeft r ≡ words (now (line .entry)) ⌝ }
     {
-        Words { rest: line, more: true }
+        Words {
+            rest: line,
+            more: true,
+        }
     }
 
     /// The next word.

@@ -16,7 +16,16 @@ pub fn read_entry(line: &[u8]) -> Option<Command>
     let mut words = Words::of(line);
     let first = words.next()?;
     if first == b"noop" {
-        return end(words, Command { verb: 0, origin: 0, serial: 0, a: 0, b: 0 });
+        return end(
+            words,
+            Command {
+                verb: 0,
+                origin: 0,
+                serial: 0,
+                a: 0,
+                b: 0,
+            },
+        );
     }
     if first == b"add" {
         return read_member(words, 1);
@@ -35,7 +44,16 @@ fn read_member(mut words: Words, verb: u8) -> Option<Command>
     ensures { λ r. ⌜ r ≡ memberOf verb (wordsLeft (words .entry)) ⌝ }
 {
     let a = read_field(&mut words, u16::MAX as u64)? as u16;
-    end(words, Command { verb, origin: 0, serial: 0, a, b: 0 })
+    end(
+        words,
+        Command {
+            verb,
+            origin: 0,
+            serial: 0,
+            a,
+            b: 0,
+        },
+    )
 }
 
 // The five fields of a change.
@@ -47,7 +65,16 @@ fn read_change(mut words: Words) -> Option<Command>
     let serial = read_field(&mut words, Serial::MAX as u64)? as Serial;
     let a = read_field(&mut words, u16::MAX as u64)? as u16;
     let b = read_field(&mut words, u16::MAX as u64)? as u16;
-    end(words, Command { verb, origin, serial, a, b })
+    end(
+        words,
+        Command {
+            verb,
+            origin,
+            serial,
+            a,
+            b,
+        },
+    )
 }
 
 // The next word as a number of at most `max`.

@@ -35,7 +35,13 @@ pub fn write_entry(out: &mut String, command: &Command) -> Result<(), Fault>
         1 => write_line(out, "add", &[a]),
         2 => write_line(out, "remove", &[a]),
         verb => {
-            let fields = [verb as u64, command.origin as u64, command.serial as u64, a, command.b as u64];
+            let fields = [
+                verb as u64,
+                command.origin as u64,
+                command.serial as u64,
+                a,
+                command.b as u64,
+            ];
             write_line(out, "change", &fields)
         }
     }

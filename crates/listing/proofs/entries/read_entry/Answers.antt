@@ -11,36 +11,36 @@ pub returns-then-eq : need.returns-then-eq
 returns-then-eq c =
     c .end .ensures ∙
     sym (lined.entry-from (c .args .line .now) _ _ _ (c .of-words .ensures) (c .in-Continue-first .ensures tt) ∙
-         lined.entry-noop _ _ (record { r = c .eq .result; matches = c .eq .ensures; is = c .if-eq .taken }))
+    lined.entry-noop _ _ (record { r = c .eq .result; matches = c .eq .ensures; is = c .if-eq .taken }))
 
 pub returns-then-eq-2 : need.returns-then-eq-2
 returns-then-eq-2 c =
     c .read-member .ensures ∙
     sym (lined.entry-from (c .args .line .now) _ _ _ (c .of-words .ensures) (c .in-Continue-first .ensures tt) ∙
-         lined.entry-add _ _ (record { r = c .eq .result; matches = c .eq .ensures; is = c .if-eq .left })
-         (record { r = c .eq-2 .result; matches = c .eq-2 .ensures; is = c .if-eq-2 .taken }))
+    lined.entry-add _ _ (record { r = c .eq .result; matches = c .eq .ensures; is = c .if-eq .left })
+    (record { r = c .eq-2 .result; matches = c .eq-2 .ensures; is = c .if-eq-2 .taken }))
 
 pub returns-then-eq-3 : need.returns-then-eq-3
 returns-then-eq-3 c =
     c .read-member-then-eq-3 .ensures ∙
     sym (lined.entry-from (c .args .line .now) _ _ _ (c .of-words .ensures) (c .in-Continue-first .ensures tt) ∙
-         lined.entry-remove _ _ (record { r = c .eq .result; matches = c .eq .ensures; is = c .if-eq .left })
-         (record { r = c .eq-2 .result; matches = c .eq-2 .ensures; is = c .if-eq-2 .left })
-         (record { r = c .eq-3 .result; matches = c .eq-3 .ensures; is = c .if-eq-3 .taken }))
+    lined.entry-remove _ _ (record { r = c .eq .result; matches = c .eq .ensures; is = c .if-eq .left })
+    (record { r = c .eq-2 .result; matches = c .eq-2 .ensures; is = c .if-eq-2 .left })
+    (record { r = c .eq-3 .result; matches = c .eq-3 .ensures; is = c .if-eq-3 .taken }))
 
 pub returns-then-eq-4 : need.returns-then-eq-4
 returns-then-eq-4 c =
     c .read-change .ensures ∙
     sym (lined.entry-from (c .args .line .now) _ _ _ (c .of-words .ensures) (c .in-Continue-first .ensures tt) ∙
-         lined.entry-change _ _ (record { r = c .eq .result; matches = c .eq .ensures; is = c .if-eq .left })
-         (record { r = c .eq-2 .result; matches = c .eq-2 .ensures; is = c .if-eq-2 .left })
-         (record { r = c .eq-3 .result; matches = c .eq-3 .ensures; is = c .if-eq-3 .left })
-         (record { r = c .eq-4 .result; matches = c .eq-4 .ensures; is = c .if-eq-4 .taken }))
+    lined.entry-change _ _ (record { r = c .eq .result; matches = c .eq .ensures; is = c .if-eq .left })
+    (record { r = c .eq-2 .result; matches = c .eq-2 .ensures; is = c .if-eq-2 .left })
+    (record { r = c .eq-3 .result; matches = c .eq-3 .ensures; is = c .if-eq-3 .left })
+    (record { r = c .eq-4 .result; matches = c .eq-4 .ensures; is = c .if-eq-4 .taken }))
 
 pub returns : need.returns
 returns c =
     sym (lined.entry-from (c .args .line .now) _ _ _ (c .of-words .ensures) (c .in-Continue-first .ensures tt) ∙
-         lined.entry-other _ _ (record { r = c .eq .result; matches = c .eq .ensures; is = c .if-eq .left })
-         (record { r = c .eq-2 .result; matches = c .eq-2 .ensures; is = c .if-eq-2 .left })
-         (record { r = c .eq-3 .result; matches = c .eq-3 .ensures; is = c .if-eq-3 .left })
-         (record { r = c .eq-4 .result; matches = c .eq-4 .ensures; is = c .if-eq-4 .left }))
+    lined.entry-other _ _ (record { r = c .eq .result; matches = c .eq .ensures; is = c .if-eq .left })
+    (record { r = c .eq-2 .result; matches = c .eq-2 .ensures; is = c .if-eq-2 .left })
+    (record { r = c .eq-3 .result; matches = c .eq-3 .ensures; is = c .if-eq-3 .left })
+    (record { r = c .eq-4 .result; matches = c .eq-4 .ensures; is = c .if-eq-4 .left }))

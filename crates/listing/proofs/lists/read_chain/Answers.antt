@@ -9,9 +9,9 @@ returns-in-Break-new c =
     let p = err-from-errBy (c .from-residual-in-Break-new .result) (c .from-residual-in-Break-new .ensures .1) in
     rw (p .1, p .2)
     (sym (chain-told _ _ _ (c .in-Continue-members .ensures tt)
-        (c .in-Break-new .ensures tt ∙ ap founding (c .as-slice .ensures .value))))
+    (c .in-Break-new .ensures tt ∙ ap founding (c .as-slice .ensures .value))))
 
 pub returns : need.returns
 returns c =
     sym (chain-told _ _ _ (c .in-Continue-members .ensures tt)
-        (c .in-Continue-new .ensures tt ∙ ap founding (c .as-slice .ensures .value)))
+    (c .in-Continue-new .ensures tt ∙ ap founding (c .as-slice .ensures .value)))

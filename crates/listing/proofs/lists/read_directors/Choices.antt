@@ -11,7 +11,7 @@ abbrev pub Inv-loop-word : given.InvT-loop-word
 Inv-loop-word l =
     (length (vec-items (l .members)) + length (wordsLeft (l .words)) ≡ length (wordsLeft (l .entry .words))) ×
     (bytes (directors (wordsLeft (l .entry .words))) ≡
-     afterBytes (vec-items (l .members)) (bytes (directors (wordsLeft (l .words)))))
+    afterBytes (vec-items (l .members)) (bytes (directors (wordsLeft (l .words)))))
 
 abbrev pub μ-loop-word : given.MeasureT-loop-word
 μ-loop-word l = length (wordsLeft (l .words))

@@ -11,7 +11,7 @@ abbrev pub Inv-loop-bytes : given.InvT-loop-bytes
 Inv-loop-bytes l =
     (l .line + length (linesLeft (l .lines)) ≡ 1 + length (linesLeft (l .entry .lines))) ×
     (entriesFrom 2 (linesLeft (l .entry .lines)) ≡
-     after (vec-items (l .commands)) (entriesFrom (l .line + 1) (linesLeft (l .lines))))
+    after (vec-items (l .commands)) (entriesFrom (l .line + 1) (linesLeft (l .lines))))
 
 abbrev pub μ-loop-bytes : given.MeasureT-loop-bytes
 μ-loop-bytes l = length (linesLeft (l .lines))

@@ -9,7 +9,8 @@ use Rattle.listing.proofs.lists.read_list.Needs as need
 
 pub returns : need.returns
 returns c = record {
-    answer = c .read-text .ensures;
-    back = λ ms cs v h e.
-        c .read-text .ensures ∙
-        ap (λ x. cond (spent (c .read-text .result)) (Err Memory) x) (ap readText e ∙ text-back ms cs v h) }
+  answer = c .read-text .ensures;
+  back = λ ms cs v h e.
+      c .read-text .ensures ∙
+      ap (λ x. cond (spent (c .read-text .result)) (Err Memory) x) (ap readText e ∙ text-back ms cs v h);
+}

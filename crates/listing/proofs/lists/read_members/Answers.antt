@@ -10,10 +10,10 @@ returns-in-rest c =
 pub returns-then-eq : need.returns-then-eq
 returns-then-eq c =
     rw (whole.chain-from (c .args .line .now) _ _ _ (c .of-words .ensures) (c .in-Some .ensures tt)
-        (record { r = c .eq .result; matches = c .eq .ensures; is = c .if-eq .taken }))
+    (record { r = c .eq .result; matches = c .eq .ensures; is = c .if-eq .taken }))
     (c .read-directors .ensures)
 
 pub returns : need.returns
 returns c =
     sym (ap membersTold (whole.chain-other (c .args .line .now) _ _ _ (c .of-words .ensures) (c .in-Some .ensures tt)
-        (record { r = c .eq .result; matches = c .eq .ensures; is = c .if-eq .left })))
+    (record { r = c .eq .result; matches = c .eq .ensures; is = c .if-eq .left })))

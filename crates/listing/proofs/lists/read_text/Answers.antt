@@ -16,20 +16,20 @@ returns-in-Break-chain c =
     let p = err-from-errBy (c .from-residual .result) (c .from-residual .ensures .1) in
     rw (p .1, p .2)
     (chain-fault _ (readChain (c .in-Some .first .now)) (linesLeft (c .next .last .self)) _
-     (text-from (c .args .text .now) _ _ _ refl (c .in-Some .ensures tt)) (c .in-Break-chain .ensures tt))
+    (text-from (c .args .text .now) _ _ _ refl (c .in-Some .ensures tt)) (c .in-Break-chain .ensures tt))
 
 pub returns-in-Break-commands : need.returns-in-Break-commands
 returns-in-Break-commands c =
     let p = err-from-errBy (c .from-residual-in-Break-commands .result) (c .from-residual-in-Break-commands .ensures .1) in
     rw (p .1, p .2)
     (entry-fault _ (readChain (c .in-Some .first .now)) (linesLeft (c .next .last .self)) _ _
-     (text-from (c .args .text .now) _ _ _ refl (c .in-Some .ensures tt))
-     (c .in-Continue-chain .ensures tt) (c .in-Break-commands .ensures tt))
+    (text-from (c .args .text .now) _ _ _ refl (c .in-Some .ensures tt))
+    (c .in-Continue-chain .ensures tt) (c .in-Break-commands .ensures tt))
 
 pub returns : need.returns
 returns c =
     text-list _ (readChain (c .in-Some .first .now)) (linesLeft (c .next .last .self)) _ _
-     (text-from (c .args .text .now) _ _ _ refl (c .in-Some .ensures tt))
+    (text-from (c .args .text .now) _ _ _ refl (c .in-Some .ensures tt))
     (c .in-Continue-chain .ensures tt) (c .in-Continue-commands .ensures tt)
 
 pub read-entries-requires : need.read-entries-requires
