@@ -20,7 +20,7 @@ use Rattle.archive.specs.Reading.{sizeOf, commandOf, rest, Found, found, andTh
 use Rattle.archive.proofs.OneEntry.{reread, rewritten}
 
 -- after an entry fewer bytes are left
-rest-shorter : (bs : List ℕ) → (sizeOf bs ≡ 0 → ⊥) → length (rest bs) + 1 ≤ length bs
+pub rest-shorter : (bs : List ℕ) → (sizeOf bs ≡ 0 → ⊥) → length (rest bs) + 1 ≤ length bs
 rest-shorter [] some = absurd (some refl)
 rest-shorter (b ∷ bs) some = let l = length-drop (sizeOf (b ∷ bs)) (b ∷ bs) in omega arith
 

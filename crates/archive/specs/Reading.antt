@@ -51,6 +51,10 @@ commandAs (Some Change) bs =
 abbrev pub commandOf : List ℕ → Command
 commandOf bs = commandAs (verbOf (getD bs 0 0)) bs
 
+-- the command of the first entry, if these bytes begin with one
+abbrev pub firstCommand : List ℕ → Option Command
+firstCommand bs = cond (eqb (sizeOf bs) 0) None (Some (commandOf bs))
+
 -- the command that these bytes tell, if they are one whole entry and no more
 abbrev pub decoded : List ℕ → Option Command
 decoded bs = cond (ltb 0 (length bs) && eqb (sizeOf bs) (length bs)) (Some (commandOf bs)) None

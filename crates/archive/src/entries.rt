@@ -3,7 +3,7 @@
 ghost use Prim.Native.Nat.{ℕ, _+_, _-_, _<_, _≤_};
 ghost use Rattle.archive.specs.Layout.{entry};
 ghost use Rattle.archive.specs.Readers.{shown};
-ghost use Rattle.archive.specs.Reading.{sizeOf, commandAs, commandOf, decoded, rest, entryAt};
+ghost use Rattle.archive.specs.Reading.{sizeOf, commandAs, commandOf, firstCommand, decoded, rest, entryAt};
 ghost use Rattle.command.specs.Commands.{wellFormed, serialBytes, Sized};
 ghost use Rattle.command.specs.declared.Command.{Command};
 ghost use Rattle.command.specs.declared.Verb.the-variants.{Change};
@@ -59,6 +59,23 @@ impl<'a> Entries<'a> {
         }
         self.rest = &bytes[size..];
         Some(Entry { offset: self.end.saturating_sub(bytes.len()), bytes: &bytes[0..size] })
+    }
+}
+
+impl Entries<'_> {
+    /// The command of the next entry, if there is one.
+    pub fn next_command(&mut self) -> Option<Command>
+        ensures answer { λ r. ⌜ r ≡ firstCommand (now (now (self .entry) .rest)) ⌝ }
+        ensures after { λ _. ⌜ now (now (self .exit) .rest) ≡ rest (now (now (self .entry) .rest)) ⌝ }
+        ensures same { λ _. ⌜ now (self .exit) .end ≡ now (self .entry) .end ⌝ }
+    {
+        let bytes = self.rest;
+        let size = size_of(bytes);
+        if size == 0 {
+            return None;
+        }
+        self.rest = &bytes[size..];
+        Some(command_of(bytes))
     }
 }
 

@@ -13,6 +13,7 @@ pub use entries::Entry;
 pub use lists::ListRefusal;
 pub use lists::ListRefusalDebug;
 pub use lists::ListRefusalPartialEq;
+pub use lists::space_for;
 pub use lists::write_list;
 pub use reading::Broken;
 pub use reading::BrokenDebug;
