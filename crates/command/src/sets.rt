@@ -30,21 +30,27 @@ impl DirectorSet {
         if director > 31 {
             return self;
         }
-        DirectorSet { bits: self.bits | 1 << director }
+        DirectorSet {
+            bits: self.bits | 1 << director,
+        }
     }
 
     /// Who is in either set.
     pub fn union(self, other: DirectorSet) -> DirectorSet
         ensures { λ r. ⌜ r .bits ≡ bitOr (self .bits) (other .bits) ⌝ }
     {
-        DirectorSet { bits: self.bits | other.bits }
+        DirectorSet {
+            bits: self.bits | other.bits,
+        }
     }
 
     /// Who is in both sets.
     pub fn common(self, other: DirectorSet) -> DirectorSet
         ensures { λ r. ⌜ r .bits ≡ bitAnd (self .bits) (other .bits) ⌝ }
     {
-        DirectorSet { bits: self.bits & other.bits }
+        DirectorSet {
+            bits: self.bits & other.bits,
+        }
     }
 
     /// How many are in the set.
