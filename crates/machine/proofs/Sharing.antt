@@ -15,6 +15,7 @@ use Rattle.std.proofs.shelf.Ways.{tells}
 use Rattle.command.specs.declared.Command.{Command}
 use Rattle.machine.specs.Rules.{after}
 use Rattle.machine.specs.Ledgers.{ledgerStart, ledgerRule, holdingOf, freeOf, gives, takesBack, nowHolds, given, returned, Addresses-shared, Holdings-balanced}
+use Rattle.machine.proofs.Places.{getD-set}
 use Rattle.machine.proofs.Runs.{lasts}
 
 -- a host holds no more than all hosts together
@@ -71,14 +72,6 @@ start-sound = record { long = refl; within = omega arith }
 pub addresses-shared : Addresses-shared
 addresses-shared cs = omega (arith, lasts ledgerRule Sound stays-sound ledgerStart cs start-sound .within)
 
--- what host h holds once host a holds v
-at-host : (s : List ℕ) (a h v : ℕ) → a < length s → holdingOf (set s a v) h ≡ cond (eqb a h) v (holdingOf s h)
-at-host s a h v l =
-    ⊎-elim (λ e. rw (eq-eqb a h e) (here e)) (λ n. rw (ne-eqb a h n) (getD-set-other s a h v 0 (λ e. n (sym e)))) (cases-eq a h)
-  where
-    here : a ≡ h → holdingOf (set s a v) h ≡ v
-    here e = cc (getD-set-same s a v 0 l)
-
 -- what one command moves to or from host h
 moved : (g t : Bool) (s : List ℕ) (a b h : ℕ)
     → (g ≡ true → a < length s)
@@ -88,8 +81,8 @@ moved : (g t : Bool) (s : List ℕ) (a b h : ℕ)
     + holdingOf (cond g (nowHolds s a (getD s a 0 + b)) (cond t (nowHolds s a (getD s a 0 - b)) (s, 65535)) .0) h
     ≡ cond (g && eqb a h) b 0 + holdingOf s h
 moved true true s a b h p q r = absurd (r refl refl)
-moved true false s a b h p q r = grind (arith, tells, at-host s a h (getD s a 0 + b) (p refl))
-moved false true s a b h p q r = grind (arith, tells, q refl .1, at-host s a h (getD s a 0 - b) (q refl .0))
+moved true false s a b h p q r = grind (arith, tells, getD-set s a h (getD s a 0 + b) (p refl))
+moved false true s a b h p q r = grind (arith, tells, q refl .1, getD-set s a h (getD s a 0 - b) (q refl .0))
 moved false false s a b h p q r = omega arith
 
 balance : (s : List ℕ) (cs : List Command) (h : ℕ) → Sound s

@@ -1,0 +1,3 @@
+pub mod Freezing
+pub mod Once
+pub mod Passing
