@@ -57,7 +57,7 @@ put : (xs ys t u : List ℕ) (o n a : ℕ) → length xs ≡ 32 → length ys �
     → set (set (take 64 (xs ++ (ys ++ t))) o n) (32 + o) a ++ u ≡ set xs o n ++ (set ys o a ++ u)
 put xs ys t u o n a l m h =
     let e : set (take 64 (xs ++ (ys ++ t))) o n ≡ set xs o n ++ ys =
-        ap (λ z. set z o n) (take-front xs ys t l m) ∙ set-append-left xs ys o n (omega arith) in
+    ap (λ z. set z o n) (take-front xs ys t l m) ∙ set-append-left xs ys o n (omega arith) in
     ap (λ z. set z (32 + o) a ++ u) e
     ∙ (ap (λ z. z ++ u) (set-second (set xs o n) ys o a (length-set xs o n ∙ l)) ∙ append-assoc (set xs o n) (set ys o a) u)
 
@@ -97,7 +97,7 @@ keeps-is ks t c r l h =
     let k : Kept = record { serial = c .serial; answer = r .1 } in
     ap (λ z. (z, r .1))
     (put (serials ks) (answers ks) t (r .0) (c .origin) (c .serial) (r .1) (length-map ks (λ k. k .serial) ∙ l)
-        (length-map ks (λ k. k .answer) ∙ l) h
+    (length-map ks (λ k. k .answer) ∙ l) h
     ∙ (ap (λ z. z ++ (set (answers ks) (c .origin) (r .1) ++ r .0)) (sym (map-set (λ k. k .serial) ks (c .origin) k))
     ∙ ap (λ z. serials (set ks (c .origin) k) ++ (z ++ r .0)) (sym (map-set (λ k. k .answer) ks (c .origin) k))))
 
@@ -119,7 +119,7 @@ again-is lower ks t c l h n e =
 pub higher-is : (lower : Rule) (ks : List Kept) (t : List ℕ) (c : Command) (u : List ℕ) (a : ℕ) → length ks ≡ 32
     → c .origin ≤ 31 → getD ks (c .origin) blank .serial < c .serial → u ≡ lower t c .0 → a ≡ lower t c .1
     → onceRule lower (onceState ks t) c
-      ≡ (onceState (set ks (c .origin) (record { serial = c .serial; answer = a })) u, a)
+    ≡ (onceState (set ks (c .origin) (record { serial = c .serial; answer = a })) u, a)
 higher-is lower ks t c u a l h e eu ea =
     rule-higher lower (onceState ks t) c h (rw (serial-read ks t (c .origin) l h) e)
     ∙ (ap (λ z. keeps (onceState ks t) c (lower z c)) (below-read ks t l)

@@ -26,5 +26,5 @@ frozen-below lower s [] f n = refl
 frozen-below lower s (c ∷ cs) f n =
     let (h, k) = and-parts (not (thaws c)) (noThaw cs) n in
     let one : Stays s (freezeRule lower s c .0) =
-        stays (freezes c) (thaws c) (isFrozen s) s _ _ _ _ refl f (not-true (thaws c) h) in
+    stays (freezes c) (thaws c) (isFrozen s) s _ _ _ _ refl f (not-true (thaws c) h) in
     frozen-below lower (freezeRule lower s c .0) cs (one .frozen) k ∙ one .below

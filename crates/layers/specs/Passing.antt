@@ -54,5 +54,7 @@ Same-answer lower =
     → stillHighest c ds ≡ true
     → isSame c d ≡ true
     → onceRule lower (after (onceRule lower) (onceStart start) (cs ++ (c ∷ ds))) d
-      ≡ ( after (onceRule lower) (onceStart start) (cs ++ (c ∷ ds))
-        , onceRule lower (after (onceRule lower) (onceStart start) cs) c .1 )
+    ≡ (
+      after (onceRule lower) (onceStart start) (cs ++ (c ∷ ds)),
+      onceRule lower (after (onceRule lower) (onceStart start) cs) c .1,
+    )

@@ -26,7 +26,10 @@ impl<M: Machine> Freeze<M> {
         ensures lower { λ r. ⌜ r .lower ≡ lower ⌝ }
         ensures still { λ _. ⌜ Frozen-below (M·Machine .rule) ⌝ }
     {
-        Freeze { frozen: false, lower }
+        Freeze {
+            frozen: false,
+            lower,
+        }
     }
 
     /// The machine below.

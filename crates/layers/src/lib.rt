@@ -2,8 +2,11 @@
 
 mod freezing;
 mod once;
+mod stacks;
 
 pub use freezing::Freeze;
 pub use freezing::FreezeMachine;
 pub use once::OnceOnly;
 pub use once::OnceOnlyMachine;
+pub use stacks::Stack;
+pub use stacks::new_stack;

@@ -1,6 +1,7 @@
 //! Once-only: a layer that lets each command of an origin through once, and answers a repetition as it did before.
 
 ghost use Rattle.layers.specs.Once.{onceState, onceStart, onceRule};
+ghost use Rattle.layers.specs.Passing.{Acts-once, Same-answer};
 ghost use mathlib.Core.Path.{_≡_};
 use command::Command;
 use command::Serial;
@@ -22,11 +23,21 @@ pub struct OnceOnly<M> {
 }
 
 impl<M: Machine> OnceOnly<M> {
-    /// This machine with once-only over it, which keeps nothing yet.
+    /// This machine with once-only over it, which keeps nothing yet. Whatever commands it gets, each origin and serial acts
+    /// at most once below, and a repeated highest serial gets the same answer.
     pub fn over(lower: M) -> OnceOnly<M>
+        ensures start { λ r. ⌜ onceState (r .kept) (M·Machine .state (r .lower)) ≡ onceStart (M·Machine .state lower) ⌝ }
         ensures lower { λ r. ⌜ r .lower ≡ lower ⌝ }
+        ensures once { λ _. ⌜ Acts-once (M·Machine .rule) ⌝ }
+        ensures again { λ _. ⌜ Same-answer (M·Machine .rule) ⌝ }
     {
-        OnceOnly { kept: [Kept { serial: 0, answer: 0 }; 32], lower }
+        OnceOnly {
+            kept: [Kept {
+                serial: 0,
+                answer: 0,
+            }; 32],
+            lower,
+        }
     }
 
     /// The machine below.
@@ -57,12 +68,18 @@ pub impl<M: Machine> Machine for OnceOnly<M> as OnceOnlyMachine {
             return kept.answer;
         }
         let answer = self.lower.apply(command);
-        self.kept[origin] = Kept { serial: command.serial, answer };
+        self.kept[origin] = Kept {
+            serial: command.serial,
+            answer,
+        };
         answer
     }
 
     fn reset(&mut self) {
-        self.kept = [Kept { serial: 0, answer: 0 }; 32];
+        self.kept = [Kept {
+            serial: 0,
+            answer: 0,
+        }; 32];
         self.lower.reset();
     }
 }
