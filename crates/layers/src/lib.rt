@@ -10,3 +10,6 @@ pub use once::OnceOnly;
 pub use once::OnceOnlyMachine;
 pub use stacks::Stack;
 pub use stacks::new_stack;
+
+#[cfg(test)]
+mod tests;

@@ -22,6 +22,12 @@ pub struct OnceOnly<M> {
     lower: M,
 }
 
+// What is kept of an origin that has used no serial yet.
+const NOTHING: Kept = Kept {
+    serial: 0,
+    answer: 0,
+};
+
 impl<M: Machine> OnceOnly<M> {
     /// This machine with once-only over it, which keeps nothing yet. Whatever commands it gets, each origin and serial acts
     /// at most once below, and a repeated highest serial gets the same answer.
@@ -32,10 +38,7 @@ impl<M: Machine> OnceOnly<M> {
         ensures again { λ _. ⌜ Same-answer (M·Machine .rule) ⌝ }
     {
         OnceOnly {
-            kept: [Kept {
-                serial: 0,
-                answer: 0,
-            }; 32],
+            kept: [NOTHING; 32],
             lower,
         }
     }
@@ -76,10 +79,7 @@ pub impl<M: Machine> Machine for OnceOnly<M> as OnceOnlyMachine {
     }
 
     fn reset(&mut self) {
-        self.kept = [Kept {
-            serial: 0,
-            answer: 0,
-        }; 32];
+        self.kept = [NOTHING; 32];
         self.lower.reset();
     }
 }

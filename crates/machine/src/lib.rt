@@ -45,3 +45,6 @@ pub fn apply_all<M: Machine>(machine: &mut M, commands: &[Command])
         let _ = machine.apply(command);
     }
 }
+
+#[cfg(test)]
+mod tests;
