@@ -1,21 +1,22 @@
 -- A repeated highest serial gets the same answer.
-use mathlib.Core.Bool.{true, false, cond, not, _&&_}
-use mathlib.Core.List.{List, [], _∷_, _++_}
+use mathlib.Core.Bool.{true, false, not, _&&_}
+use mathlib.Core.List.{List, [], _∷_}
 use mathlib.Core.Logic.{⊎-elim}
 use mathlib.Core.Path.{_≡_, refl, sym, ap, subst, _∙_}
 use Prim.Native.Nat.{ℕ, _≤_, _<_}
 use native.Mathlib.Omega.{arith}
 use lib.Dec.{eqb, ltb}
 use lib.ListN.{length}
-use Rattle.std.proofs.shelf.Tests.{cond-true, cond-false, eq-eqb, ne-eqb, lt-ltb, and-parts, and-from, not-true, both-ways}
+use Rattle.std.proofs.shelf.Tests.{cond-true, cond-false, eq-eqb, ne-eqb, lt-ltb}
+use Rattle.std.proofs.shelf.Tests.{and-parts, and-from, not-true, both-ways}
 use Rattle.std.proofs.shelf.Ways.{tells}
 use Rattle.command.specs.declared.Command.{Command}
 use Rattle.machine.specs.Rules.{Rule, after}
 use Rattle.machine.proofs.Runs.{after-append, lasts}
-use Rattle.layers.specs.Once.{onceStart, onceRule, serialOf, answerOf, belowOnce}
-use Rattle.layers.specs.Passing.{goesLower, isSame, stillHighest, Same-answer}
+use Rattle.layers.specs.Once.{onceStart, onceRule, serialOf, answerOf}
+use Rattle.layers.specs.Passing.{isSame, stillHighest, Same-answer}
 use Rattle.layers.proofs.Memory.{rule-again}
-use Rattle.layers.proofs.Repeats.{Went, Stayed, went, either, stays-long, went-serial, went-answer, start-long}
+use Rattle.layers.proofs.Repeats.{Went, went, either, stays-long, went-serial, went-answer, start-long}
 
 -- of origin o the serial n is kept, with the answer a
 record Keeps (s : List ℕ) (o n a : ℕ) : Type 0 where

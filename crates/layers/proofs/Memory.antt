@@ -1,18 +1,19 @@
 -- What once-only keeps, read and written in its state.
-use mathlib.Core.Bool.{Bool, true, false, cond, _||_}
-use mathlib.Core.List.{List, [], _∷_, _++_, map}
-use mathlib.Core.Logic.{_≢_, _⊎_, inl, inr, ⊎-elim}
-use mathlib.Core.Path.{_≡_, refl, sym, ap, _∙_}
+use mathlib.Core.List.{List, _++_, map}
+use mathlib.Core.Logic.{_⊎_, inl, inr, ⊎-elim}
+use mathlib.Core.Path.{_≡_, sym, ap, _∙_}
 use Prim.Native.Nat.{ℕ, _+_, _-_, _≤_, _<_}
 use native.Mathlib.Omega.{arith}
-use lib.Dec.{eqb, ltb}
+use lib.Dec.{ltb}
 use lib.ListN.{length, getD, set, take, drop}
-use Rattle.std.proofs.shelf.Lists.{append-assoc, length-append, length-set, length-map, length-take-le, getD-append-left, getD-append-right, getD-map, getD-set-same, getD-set-other, getD-take, set-append-left, set-append-right, take-at, drop-at, map-set}
-use Rattle.std.proofs.shelf.Tests.{cond-true, cond-false, le-ltb, lt-ltb, eq-eqb, ne-eqb, or-from}
+use Rattle.std.proofs.shelf.Lists.{append-assoc, length-append, length-set, length-map, take-at, drop-at}
+use Rattle.std.proofs.shelf.Lists.{getD-append-left, getD-append-right, getD-map}
+use Rattle.std.proofs.shelf.Lists.{set-append-left, set-append-right, map-set}
+use Rattle.std.proofs.shelf.Tests.{cond-true, cond-false, le-ltb, eq-eqb}
 use Rattle.std.proofs.shelf.Ways.{tells}
 use Rattle.command.specs.declared.Command.{Command}
 use Rattle.layers.specs.declared.once.Kept.{Kept}
-use Rattle.machine.specs.declared.denials.Denial.the-variants.{UnknownOrigin, OldSerial}
+use Rattle.machine.specs.declared.denials.Denial.the-variants.{OldSerial}
 use Rattle.machine.specs.Denials.{number}
 use Rattle.machine.specs.Rules.{Rule}
 use Rattle.layers.specs.Once.{onceState, onceRule, serialOf, answerOf, belowOnce, keeps, isOld, isRepeat}
@@ -59,7 +60,8 @@ put xs ys t u o n a l m h =
     let e : set (take 64 (xs ++ (ys ++ t))) o n ≡ set xs o n ++ ys =
     ap (λ z. set z o n) (take-front xs ys t l m) ∙ set-append-left xs ys o n (omega arith) in
     ap (λ z. set z (32 + o) a ++ u) e
-    ∙ (ap (λ z. z ++ u) (set-second (set xs o n) ys o a (length-set xs o n ∙ l)) ∙ append-assoc (set xs o n) (set ys o a) u)
+    ∙ (ap (λ z. z ++ u) (set-second (set xs o n) ys o a (length-set xs o n ∙ l))
+    ∙ append-assoc (set xs o n) (set ys o a) u)
 
 -- the memory of the code, in the state that it stands for
 abbrev blank : Kept
@@ -92,7 +94,8 @@ below-read ks t l =
     drop-front (serials ks) (answers ks) t (length-map ks (λ k. k .serial) ∙ l) (length-map ks (λ k. k .answer) ∙ l)
 
 keeps-is : (ks : List Kept) (t : List ℕ) (c : Command) (r : List ℕ × ℕ) → length ks ≡ 32 → c .origin ≤ 31
-    → keeps (onceState ks t) c r ≡ (onceState (set ks (c .origin) (record { serial = c .serial; answer = r .1 })) (r .0), r .1)
+    → keeps (onceState ks t) c r
+    ≡ (onceState (set ks (c .origin) (record { serial = c .serial; answer = r .1 })) (r .0), r .1)
 keeps-is ks t c r l h =
     let k : Kept = record { serial = c .serial; answer = r .1 } in
     ap (λ z. (z, r .1))
@@ -124,5 +127,6 @@ higher-is lower ks t c u a l h e eu ea =
     rule-higher lower (onceState ks t) c h (rw (serial-read ks t (c .origin) l h) e)
     ∙ (ap (λ z. keeps (onceState ks t) c (lower z c)) (below-read ks t l)
     ∙ (keeps-is ks t c (lower t c) l h
-    ∙ (ap (λ x. (onceState (set ks (c .origin) (record { serial = c .serial; answer = x })) (lower t c .0), x)) (sym ea)
+    ∙ (ap (λ x. (onceState (set ks (c .origin) (record { serial = c .serial; answer = x })) (lower t c .0), x))
+    (sym ea)
     ∙ ap (λ v. (onceState (set ks (c .origin) (record { serial = c .serial; answer = a })) v, a)) (sym eu))))

@@ -1,21 +1,23 @@
 -- Below once-only each origin and serial acts at most once, and a repeated highest serial gets the same answer.
-use mathlib.Core.Bool.{Bool, true, false, cond, not, _&&_, _||_}
-use mathlib.Core.List.{List, [], _∷_, _++_}
+use mathlib.Core.Bool.{Bool, true, false, cond, not}
+use mathlib.Core.List.{List, [], _∷_}
 use mathlib.Core.Logic.{_⊎_, inl, inr, ⊎-elim}
 use mathlib.Core.Path.{_≡_, refl, sym, ap, _∙_}
 use Prim.Native.Nat.{ℕ, _+_, _≤_, _<_}
 use native.Mathlib.Omega.{arith}
-use lib.Dec.{eqb, leb, ltb}
+use lib.Dec.{eqb, ltb}
 use lib.ListN.{length, getD, set, take, replicate}
-use Rattle.std.proofs.shelf.Lists.{length-append, length-set, length-take-le, getD-append-left, getD-set-same, getD-set-other, getD-take, drop-at}
-use Rattle.std.proofs.shelf.Tests.{cases-bool, cases-eq, cond-true, cond-false, or-cases, not-from-false, and-from, and-parts, eq-eqb, ne-eqb, false≢true}
+use Rattle.std.proofs.shelf.Lists.{length-append, length-set, length-take-le, drop-at}
+use Rattle.std.proofs.shelf.Lists.{getD-append-left, getD-set-other, getD-take}
+use Rattle.std.proofs.shelf.Tests.{cases-bool, cases-eq, cond-true, cond-false, eq-eqb, ne-eqb}
+use Rattle.std.proofs.shelf.Tests.{or-cases, not-from-false, and-from, false≢true}
 use Rattle.std.proofs.shelf.Ways.{tells}
 use Rattle.command.specs.declared.Command.{Command}
 use Rattle.machine.specs.Rules.{Rule, after}
 use Rattle.layers.specs.Once.{onceStart, onceRule, serialOf, answerOf, belowOnce, keeps, isOld, isRepeat}
-use Rattle.layers.specs.Passing.{goesLower, passed, isSame, occurs, noneTwice, Acts-once, stillHighest, Same-answer}
+use Rattle.layers.specs.Passing.{goesLower, passed, isSame, occurs, noneTwice, Acts-once}
 use Rattle.machine.proofs.Places.{getD-set}
-use Rattle.layers.proofs.Memory.{rule-again, rule-higher}
+use Rattle.layers.proofs.Memory.{rule-higher}
 
 -- what a command that went lower leaves in the memory
 memory : (s : List ℕ) (c : Command) (a : ℕ) → List ℕ
@@ -56,7 +58,8 @@ keeps-answer s c r o l h k =
     (omega (arith, length-set (take 64 s) (c .origin) (c .serial)))
     ∙ (ap (λ b. cond b (r .1) (getD (set (take 64 s) (c .origin) (c .serial)) (32 + o) 0)) e
     ∙ ap (cond (eqb (c .origin) o) (r .1))
-    (getD-set-other (take 64 s) (c .origin) (32 + o) (c .serial) 0 (omega arith) ∙ getD-take 64 s (32 + o) 0 (omega arith))))
+    (getD-set-other (take 64 s) (c .origin) (32 + o) (c .serial) 0 (omega arith)
+    ∙ getD-take 64 s (32 + o) 0 (omega arith))))
 
 -- a command goes lower or changes nothing
 pub record Went (lower : Rule) (s : List ℕ) (c : Command) : Type 0 where
@@ -93,7 +96,8 @@ stayed lower s c e =
 pub either : (lower : Rule) (s : List ℕ) (c : Command) → Went lower s c ⊎ Stayed lower s c
 either lower s c = ⊎-elim (λ e. inl (went lower s c e)) (λ e. inr (stayed lower s c e)) (cases-bool (goesLower s c))
 
-went-long : (lower : Rule) (s : List ℕ) (c : Command) → Went lower s c → 64 ≤ length s → 64 ≤ length (onceRule lower s c .0)
+went-long : (lower : Rule) (s : List ℕ) (c : Command) → Went lower s c → 64 ≤ length s
+    → 64 ≤ length (onceRule lower s c .0)
 went-long lower s c w l = rw (w .kept) (keeps-long s c (lower (belowOnce s) c) l)
 
 pub stays-long : (lower : Rule) (s : List ℕ) (c : Command) → 64 ≤ length s → 64 ≤ length (onceRule lower s c .0)
@@ -135,7 +139,8 @@ record High (s : List ℕ) (d : Command) : Type 0 where
   known : d .origin ≤ 31
   higher : serialOf s (d .origin) < d .serial
 
-high-same : (s : List ℕ) (c d : Command) → isSame d c ≡ true → c .origin ≤ 31 → serialOf s (c .origin) < c .serial → High s d
+high-same : (s : List ℕ) (c d : Command) → isSame d c ≡ true → c .origin ≤ 31
+    → serialOf s (c .origin) < c .serial → High s d
 high-same s c d e k h =
     let o : d .origin ≡ c .origin = grind (arith, tells) in
     let n : d .serial ≡ c .serial = grind (arith, tells) in
@@ -148,7 +153,8 @@ rises kept i j n m h e =
     ⊎-elim (λ q. omega (arith, ap kept q, e ∙ cond-true (eqb i j) n (kept j) (eq-eqb i j q)))
     (λ k. omega (arith, e ∙ cond-false (eqb i j) n (kept j) (ne-eqb i j k))) (cases-eq i j)
 
-high-later : (lower : Rule) (s : List ℕ) (c d : Command) → Went lower s c → 64 ≤ length s → High (onceRule lower s c .0) d → High s d
+high-later : (lower : Rule) (s : List ℕ) (c d : Command) → Went lower s c → 64 ≤ length s
+    → High (onceRule lower s c .0) d → High s d
 high-later lower s c d w l h =
     let q =
     rises (serialOf s) (c .origin) (d .origin) (c .serial) (serialOf (onceRule lower s c .0) (d .origin)) (w .higher)
@@ -178,7 +184,9 @@ passes-once lower s cs c w l =
     ⊎-elim
     (λ e.
     let h = highs lower (onceRule lower s c .0) cs c (stays-long lower s c l) e in
-    let q = went-serial lower s c (c .origin) w l (w .known) ∙ cond-true (eqb (c .origin) (c .origin)) _ _ (eq-eqb _ _ refl) in
+    let q =
+    went-serial lower s c (c .origin) w l (w .known)
+    ∙ cond-true (eqb (c .origin) (c .origin)) _ _ (eq-eqb _ _ refl) in
     absurd (omega (arith, h .higher, q)))
     (λ e. e)
     (cases-bool (occurs c (passed lower (onceRule lower s c .0) cs)))
@@ -191,7 +199,8 @@ none-twice lower s (c ∷ cs) l =
     ⊎-elim
     (λ w.
     ap noneTwice (cond-true (goesLower s c) (c ∷ tail) tail (w .goes))
-    ∙ and-from (not (occurs c tail)) (noneTwice tail) (not-from-false (occurs c tail) (passes-once lower s cs c w l)) rest)
+    ∙ and-from (not (occurs c tail)) (noneTwice tail)
+    (not-from-false (occurs c tail) (passes-once lower s cs c w l)) rest)
     (λ t. ap noneTwice (cond-false (goesLower s c) (c ∷ tail) tail (t .stops)) ∙ rest)
     (either lower s c)
 

@@ -4,7 +4,6 @@ use mathlib.Core.List.{List, [], _∷_}
 use mathlib.Core.Path.{_≡_, refl, sym, _∙_}
 use Prim.Native.Nat.{ℕ}
 use Rattle.std.proofs.shelf.Tests.{and-parts, not-true, true≢false, false≢true}
-use Rattle.command.specs.declared.Command.{Command}
 use Rattle.machine.specs.Rules.{Rule}
 use Rattle.layers.specs.Freezing.{isFrozen, belowFreeze, freezes, thaws, freezeRule, noThaw, Frozen-below}
 

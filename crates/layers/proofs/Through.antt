@@ -9,7 +9,7 @@ use Rattle.machine.specs.Rules.{Rule, after}
 use Rattle.machine.specs.Pools.{poolStart, poolRule, weight}
 use Rattle.machine.proofs.Weighing.{weights-bounded}
 use Rattle.layers.specs.Freezing.{isFrozen, belowFreeze, freezes, thaws, freezeState, freezeRule}
-use Rattle.layers.specs.Once.{onceStart, onceRule, belowOnce}
+use Rattle.layers.specs.Once.{onceStart}
 use Rattle.layers.specs.Passing.{passed}
 use Rattle.layers.specs.Stacks.{Stack-bounded}
 use Rattle.layers.proofs.Repeats.{acts-once}

@@ -1,24 +1,24 @@
 -- Once-only over any machine.
-use mathlib.Core.Bool.{Bool, true, false, cond, not, _&&_, _||_}
-use mathlib.Core.List.{List, [], _∷_, _++_, map}
-use mathlib.Core.Path.{_≡_}
+use mathlib.Core.Bool.{Bool, cond, _||_}
+use mathlib.Core.List.{List, _++_, map}
 use Prim.Native.Nat.{ℕ, _+_}
-use lib.Dec.{eqb, leb, ltb}
+use lib.Dec.{eqb, ltb}
 use lib.ListN.{getD, set, take, drop, replicate}
 use Rattle.command.specs.declared.Command.{Command}
 use Rattle.layers.specs.declared.once.Kept.{Kept}
 use Rattle.machine.specs.declared.denials.Denial.the-variants.{UnknownOrigin, OldSerial}
 use Rattle.machine.specs.Denials.{number}
-use Rattle.machine.specs.Rules.{Rule, after}
+use Rattle.machine.specs.Rules.{Rule}
 
--- the state: the highest serials of the origins 0 to 31, then what they were answered, then the state of the machine below
+-- the state: the highest serials of the origins 0 to 31, then what they were answered, then the state below
 abbrev pub onceState : List Kept → List ℕ → List ℕ
 onceState ks s = map (λ k. k .serial) ks ++ (map (λ k. k .answer) ks ++ s)
 
--- at first no serial is kept, for which 0 stands
+-- at first nothing is kept, for which 0 stands
 abbrev pub onceStart : List ℕ → List ℕ
 onceStart s = replicate 64 0 ++ s
 
+-- an origin's highest serial, and what that was answered
 abbrev pub serialOf : List ℕ → ℕ → ℕ
 serialOf s origin = getD s origin 0
 

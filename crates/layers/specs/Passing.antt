@@ -8,7 +8,7 @@ use Rattle.command.specs.declared.Command.{Command}
 use Rattle.machine.specs.Rules.{Rule, after}
 use Rattle.layers.specs.Once.{onceStart, onceRule, serialOf, belowOnce}
 
--- the command's serial is the highest that its origin has used
+-- the command is of an origin from 0 to 31, and its serial is higher than each that this origin has used
 abbrev pub goesLower : List ℕ → Command → Bool
 goesLower s c = leb (c .origin) 31 && ltb (serialOf s (c .origin)) (c .serial)
 
@@ -34,7 +34,8 @@ noneTwice (c ∷ cs) = not (occurs c cs) && noneTwice cs
 -- over a list of commands from the start, the machine below did what the passed commands tell it and nothing else, and
 -- among those no origin and serial occurs twice
 pub record ActedOnce (lower : Rule) (start : List ℕ) (cs : List Command) : Type 0 where
-  pub acted : belowOnce (after (onceRule lower) (onceStart start) cs) ≡ after lower start (passed lower (onceStart start) cs)
+  pub acted :
+      belowOnce (after (onceRule lower) (onceStart start) cs) ≡ after lower start (passed lower (onceStart start) cs)
   pub once : noneTwice (passed lower (onceStart start) cs) ≡ true
 
 abbrev pub Acts-once : Rule → Type 0
@@ -45,8 +46,8 @@ abbrev pub stillHighest : Command → List Command → Bool
 stillHighest c [] = true
 stillHighest c (d ∷ ds) = not (eqb (d .origin) (c .origin) && ltb (c .serial) (d .serial)) && stillHighest c ds
 
--- over a list of commands from the start: where c went lower and its serial is still its origin's highest, the same origin
--- and serial again changes nothing and gets the answer that c got
+-- over a list of commands from the start: where c went lower and its serial is still its origin's highest, the same
+-- origin and serial again changes nothing and gets the answer that c got
 abbrev pub Same-answer : Rule → Type 0
 Same-answer lower =
     (start : List ℕ) (cs ds : List Command) (c d : Command)

@@ -15,7 +15,7 @@ struct Kept {
     answer: u16,
 }
 
-/// A machine that keeps, for origins 0 to 31, the highest serial and its answer, and lets only higher serials go lower.
+/// A machine that keeps, for origins 0 to 31, the highest serial and its answer; only higher serials go lower.
 #[derive(Drop)]
 pub struct OnceOnly<M> {
     kept: [Kept; 32],
@@ -29,10 +29,11 @@ const NOTHING: Kept = Kept {
 };
 
 impl<M: Machine> OnceOnly<M> {
-    /// This machine with once-only over it, which keeps nothing yet. Whatever commands it gets, each origin and serial acts
-    /// at most once below, and a repeated highest serial gets the same answer.
+    /// This machine with once-only over it, which keeps nothing yet. Whatever commands it gets, each origin and serial
+    /// acts at most once below, and a repeated highest serial gets the same answer.
     pub fn over(lower: M) -> OnceOnly<M>
-        ensures start { λ r. ⌜ onceState (r .kept) (M·Machine .state (r .lower)) ≡ onceStart (M·Machine .state lower) ⌝ }
+        ensures start { λ r. ⌜ onceState (r .kept) (M·Machine .state (r .lower))
+            ≡ onceStart (M·Machine .state lower) ⌝ }
         ensures lower { λ r. ⌜ r .lower ≡ lower ⌝ }
         ensures once { λ _. ⌜ Acts-once (M·Machine .rule) ⌝ }
         ensures again { λ _. ⌜ Same-answer (M·Machine .rule) ⌝ }

@@ -13,9 +13,11 @@ use machine::PoolMachine;
 /// Each command acts once at most, nothing acts while frozen, and what acts sets weights.
 pub type Stack = OnceOnly<Freeze<Pool>>;
 
-/// The stack at its start: nothing kept, not frozen, all weights 0. Whatever commands it gets, no weight exceeds 1,000.
+/// The stack at its start: nothing kept, not frozen, all weights 0. Whatever commands it gets, no weight exceeds
+/// 1,000.
 pub fn new_stack() -> Stack
-    ensures start { λ r. ⌜ onceState (r .kept) (freezeState (r .lower .frozen) (r .lower .lower .weights)) ≡ stackStart ⌝ }
+    ensures start { λ r. ⌜ onceState (r .kept) (freezeState (r .lower .frozen) (r .lower .lower .weights))
+        ≡ stackStart ⌝ }
     ensures bounded { λ _. ⌜ Stack-bounded ⌝ }
 {
     OnceOnly::over(Freeze::over(Pool::new()))

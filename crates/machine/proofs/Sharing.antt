@@ -2,19 +2,20 @@
 use mathlib.Core.Bool.{Bool, true, false, cond, _&&_}
 use mathlib.Core.List.{List, [], _∷_}
 use mathlib.Core.Logic.{⊎-elim}
-use mathlib.Core.Path.{_≡_, refl, sym}
-use Prim.Native.Nat.{ℕ, _+_, _-_, _^_, _≤_, _<_}
+use mathlib.Core.Path.{_≡_, refl}
+use Prim.Native.Nat.{ℕ, _+_, _-_, _≤_, _<_}
 use native.Mathlib.Omega.{arith}
 use lib.Dec.{eqb}
 use lib.ListN.{length, getD, set, replicate}
 use Rattle.std.specs.shelf.Lists.{sum}
-use Rattle.std.proofs.shelf.Lists.{length-set, length-replicate, getD-past, getD-replicate, getD-set-same, getD-set-other}
+use Rattle.std.proofs.shelf.Lists.{length-set, length-replicate, getD-past, getD-replicate}
 use Rattle.std.proofs.shelf.Sums.{sumBy-set, getD-le-sumBy}
-use Rattle.std.proofs.shelf.Tests.{cond-both, cases-eq, cases-lt, eq-eqb, ne-eqb}
+use Rattle.std.proofs.shelf.Tests.{cond-both, cases-lt}
 use Rattle.std.proofs.shelf.Ways.{tells}
 use Rattle.command.specs.declared.Command.{Command}
 use Rattle.machine.specs.Rules.{after}
-use Rattle.machine.specs.Ledgers.{ledgerStart, ledgerRule, holdingOf, freeOf, gives, takesBack, nowHolds, given, returned, Addresses-shared, Holdings-balanced}
+use Rattle.machine.specs.Ledgers.{ledgerStart, ledgerRule, holdingOf, freeOf, gives, takesBack, nowHolds}
+use Rattle.machine.specs.Ledgers.{given, returned, Addresses-shared, Holdings-balanced}
 use Rattle.machine.proofs.Places.{getD-set}
 use Rattle.machine.proofs.Runs.{lasts}
 
@@ -25,7 +26,8 @@ held-below xs i l = getD-le-sumBy (λ x. x) xs i 0 l
 pub sum-more : (xs : List ℕ) (i n : ℕ) → i < length xs → sum (set xs i (getD xs i 0 + n)) ≡ sum xs + n
 sum-more xs i n l = omega (arith, sumBy-set (λ x. x) xs i (getD xs i 0 + n) 0 l)
 
-pub sum-less : (xs : List ℕ) (i n : ℕ) → i < length xs → n ≤ getD xs i 0 → sum (set xs i (getD xs i 0 - n)) + n ≡ sum xs
+pub sum-less : (xs : List ℕ) (i n : ℕ) → i < length xs → n ≤ getD xs i 0
+    → sum (set xs i (getD xs i 0 - n)) + n ≡ sum xs
 sum-less xs i n l h = omega (arith, sumBy-set (λ x. x) xs i (getD xs i 0 - n) 0 l)
 
 -- 64 hosts hold at most 512
@@ -37,7 +39,8 @@ pub record Sound (s : List ℕ) : Type 0 where
 gives-tells : (s : List ℕ) (c : Command) → Sound s → gives s c ≡ true → (c .a < length s) × (c .b ≤ freeOf s)
 gives-tells s c h e = (grind (arith, tells), grind (arith, tells))
 
-takes-tells : (s : List ℕ) (c : Command) → Sound s → takesBack s c ≡ true → (c .a < length s) × (c .b ≤ holdingOf s (c .a))
+takes-tells : (s : List ℕ) (c : Command) → Sound s → takesBack s c ≡ true
+    → (c .a < length s) × (c .b ≤ holdingOf s (c .a))
 takes-tells s c h e = (grind (arith, tells), grind (arith, tells))
 
 not-both : (s : List ℕ) (c : Command) → gives s c ≡ true → takesBack s c ≡ true → ⊥
@@ -91,7 +94,8 @@ balance s [] h k = refl
 balance s (c ∷ cs) h k =
     let rest = balance (ledgerRule s c .0) cs h (stays-sound s c k) in
     let step =
-    moved (gives s c) (takesBack s c) s (c .a) (c .b) h (λ g. gives-tells s c k g .0) (takes-tells s c k) (not-both s c) in
+    moved (gives s c) (takesBack s c) s (c .a) (c .b) h (λ g. gives-tells s c k g .0) (takes-tells s c k)
+    (not-both s c) in
     omega arith
 
 pub holdings-balanced : Holdings-balanced

@@ -1,8 +1,6 @@
 -- No weight of a pool exceeds 1,000.
-use mathlib.Core.Bool.{true, false}
 use mathlib.Core.List.{List}
 use mathlib.Core.Logic.{⊎-elim}
-use mathlib.Core.Path.{_≡_}
 use Prim.Native.Nat.{ℕ, zero, suc, _≤_}
 use native.Mathlib.Omega.{arith}
 use lib.ListN.{length, replicate}
@@ -23,7 +21,9 @@ stays-light : (s : List ℕ) (c : Command) → light s → light (poolRule s c .
 stays-light s c h =
     cond-both (sets c) _ _ (λ (r : List ℕ × ℕ). light (r .0))
     (λ e. all-set (λ w. w ≤ 1000) s (c .a) (c .b) (grind (arith, tells)) h)
-    (λ _. cond-both (drains c) _ _ (λ (r : List ℕ × ℕ). light (r .0)) (λ _. all-set (λ w. w ≤ 1000) s (c .a) 0 (omega arith) h) (λ _. h))
+    (λ _.
+    cond-both (drains c) _ _ (λ (r : List ℕ × ℕ). light (r .0))
+    (λ _. all-set (λ w. w ≤ 1000) s (c .a) 0 (omega arith) h) (λ _. h))
 
 -- a place past the end counts as 0
 weight-light : (s : List ℕ) (k : ℕ) → light s → weight s k ≤ 1000

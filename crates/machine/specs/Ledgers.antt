@@ -52,7 +52,8 @@ returned s (c ∷ cs) h = cond (takesBack s c && eqb (c .a) h) (c .b) 0 + return
 
 -- whatever commands came since the start, the holdings of all hosts and the free addresses are 512 together
 abbrev pub Addresses-shared : Type 0
-Addresses-shared = (cs : List Command) → sum (after ledgerRule ledgerStart cs) + freeOf (after ledgerRule ledgerStart cs) ≡ 512
+Addresses-shared =
+    (cs : List Command) → sum (after ledgerRule ledgerStart cs) + freeOf (after ledgerRule ledgerStart cs) ≡ 512
 
 -- whatever commands came since the start, what a host gave back and what it still holds is what it got
 abbrev pub Holdings-balanced : Type 0

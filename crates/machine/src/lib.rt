@@ -17,8 +17,8 @@ pub use ledgers::Ledger;
 pub use pools::Pool;
 pub use pools::PoolMachine;
 
-/// A state, a list of numbers, with a start and a rule. The rule fixes the next state and the answer from the state and
-/// the command alone; no command is refused.
+/// A state, a list of numbers, with a start and a rule. The rule fixes the next state and the answer from the state
+/// and the command alone; no command is refused.
 pub trait Machine {
     ghost state: { Self → List ℕ };
 
@@ -38,7 +38,8 @@ pub trait Machine {
 
 /// Applies the commands in their order. After two lists one after the other the state is that after both as one list.
 pub fn apply_all<M: Machine>(machine: &mut M, commands: &[Command])
-    ensures leads { λ _. ⌜ M·Machine .state (now (machine .exit)) ≡ after (M·Machine .rule) (M·Machine .state (now (machine .entry))) (now (commands .entry)) ⌝ }
+    ensures leads { λ _. ⌜ M·Machine .state (now (machine .exit))
+        ≡ after (M·Machine .rule) (M·Machine .state (now (machine .entry))) (now (commands .entry)) ⌝ }
     ensures appended { λ _. ⌜ Appended (M·Machine .rule) ⌝ }
 {
     for command in commands {

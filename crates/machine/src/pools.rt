@@ -1,6 +1,5 @@
 //! The pool: weights of backends.
 
-ghost use Prim.Native.Nat.{ℕ};
 ghost use Rattle.machine.specs.Pools.{poolStart, poolRule, weight, Weights-bounded};
 ghost use mathlib.Core.Path.{_≡_};
 use crate::Denial;

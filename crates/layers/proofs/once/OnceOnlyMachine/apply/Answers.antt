@@ -1,12 +1,13 @@
 use borrow.Author.Needs.{needs}
 use native.Mathlib.Omega.{arith}
-use mathlib.Core.Logic.{_⊎_, inl, inr}
+use mathlib.Core.Logic.{inl, inr}
 use mathlib.Core.Path.{_≡_, sym, ap, _∙_}
 use Prim.Native.Nat.{_<_}
 use lib.ListN.{length, getD}
 use Rattle.layers.proofs.Memory.{old-is, again-is, higher-is}
 use Rattle.layers.proofs.once.OnceOnlyMachine.apply.Needs as need
-use Rattle.layers.proofs.once.OnceOnlyMachine.apply.Needs.{then-command-eq0·by·then-command-eq0, then-command-eq0·by·else-command-eq0·then-command-kept}
+use Rattle.layers.proofs.once.OnceOnlyMachine.apply.Needs.{then-command-eq0·by·then-command-eq0}
+use Rattle.layers.proofs.once.OnceOnlyMachine.apply.Needs.{then-command-eq0·by·else-command-eq0·then-command-kept}
 
 pub returns-then-command-eq0 : need.returns-then-command-eq0
 returns-then-command-eq0 g c =
@@ -31,7 +32,8 @@ returns-then-command-kept-2 g c =
 pub returns : need.returns
 returns g c =
     let l : length (c .args .self .now .kept) ≡ 32 = search needs in
-    let h : getD (c .args .self .now .kept) (c .args .command .now .origin) (record { serial = 0; answer = 0 }) .serial < c .args .command .now .serial = omega arith in
+    let k = getD (c .args .self .now .kept) (c .args .command .now .origin) (record { serial = 0; answer = 0 }) in
+    let h : k .serial < c .args .command .now .serial = omega arith in
     let e =
     higher-is (g .M·Machine .rule) (c .args .self .now .kept) (g .M·Machine .state (c .args .self .now .lower))
     (c .args .command .now) (g .M·Machine .state (c .apply-answer .last .self)) (c .apply-answer .result) l

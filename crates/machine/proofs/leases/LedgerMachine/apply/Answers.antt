@@ -14,7 +14,8 @@ add-self c =
 pub ghost-self : need.ghost-self
 ghost-self c =
     let l : c .args .command .now .a < length (c .args .self .now .holdings) = search needs in
-    (omega (arith, sum-more (c .args .self .now .holdings) (c .args .command .now .a) (c .args .command .now .b) l, c .args .self .now .shared), tt)
+    let k = sum-more (c .args .self .now .holdings) (c .args .command .now .a) (c .args .command .now .b) l in
+    (omega (arith, c .args .self .now .shared), tt)
 
 pub add-self-then-count-self-2 : need.add-self-then-count-self-2
 add-self-then-count-self-2 c =
@@ -26,4 +27,5 @@ pub ghost-self-then-count-self-2 : need.ghost-self-then-count-self-2
 ghost-self-then-count-self-2 c =
     let l : c .args .command .now .a < length (c .args .self .now .holdings) = search needs in
     let h = c .if-count-self-2 .taken in
-    (omega (arith, sum-less (c .args .self .now .holdings) (c .args .command .now .a) (c .args .command .now .b) l h, c .args .self .now .shared), tt)
+    let k = sum-less (c .args .self .now .holdings) (c .args .command .now .a) (c .args .command .now .b) l h in
+    (omega (arith, c .args .self .now .shared), tt)
