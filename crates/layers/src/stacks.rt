@@ -20,5 +20,7 @@ pub fn new_stack() -> Stack
         ≡ stackStart ⌝ }
     ensures bounded { λ _. ⌜ Stack-bounded ⌝ }
 {
-    OnceOnly::over(Freeze::over(Pool::new()))
+    let pool = Pool::new();
+    let freeze = Freeze::over(pool);
+    OnceOnly::over(freeze)
 }

@@ -9,9 +9,9 @@ pub returns : need.returns
 returns c =
     record {
       start =
-          c .over-2 .ensures .start
-          ∙ (ap (λ f. onceStart (freezeState f (c .over .result .lower .weights))) (c .over .ensures .thawed)
-          ∙ (ap (λ p. onceStart (freezeState false (p .weights))) (c .over .ensures .lower)
-          ∙ ap (λ s. onceStart (freezeState false s)) (c .new .ensures .start)));
+          c .over .ensures .start
+          ∙ (ap (λ f. onceStart (freezeState f (c .over-freeze .result .lower .weights))) (c .over-freeze .ensures .thawed)
+          ∙ (ap (λ p. onceStart (freezeState false (p .weights))) (c .over-freeze .ensures .lower)
+          ∙ ap (λ s. onceStart (freezeState false s)) (c .new-pool .ensures .start)));
       bounded = stack-bounded;
     }
