@@ -16,7 +16,7 @@ use Rattle.layers.specs.declared.once.Kept.{Kept}
 use Rattle.machine.specs.declared.denials.Denial.the-variants.{OldSerial}
 use Rattle.machine.specs.Denials.{number}
 use Rattle.machine.specs.Rules.{Rule}
-use Rattle.layers.specs.Once.{onceState, onceRule, serialOf, answerOf, belowOnce, keeps, isOld, isRepeat}
+use Rattle.layers.specs.Once.{memory, onceRule, serialOf, answerOf, belowOnce, keeps, isOld, isRepeat}
 
 -- the rule, case by case
 rule-old : (lower : Rule) (s : List ℕ) (c : Command) → c .origin ≤ 31
@@ -74,13 +74,13 @@ abbrev answers : List Kept → List ℕ
 answers ks = map (λ k. k .answer) ks
 
 serial-read : (ks : List Kept) (t : List ℕ) (o : ℕ) → length ks ≡ 32 → o ≤ 31
-    → serialOf (onceState ks t) o ≡ getD ks o blank .serial
+    → serialOf (memory ks t) o ≡ getD ks o blank .serial
 serial-read ks t o l h =
     getD-append-left (serials ks) (answers ks ++ t) 0 o (omega (arith, length-map ks (λ k. k .serial)))
     ∙ getD-map (λ k. k .serial) ks o blank 0 (omega arith)
 
 answer-read : (ks : List Kept) (t : List ℕ) (o : ℕ) → length ks ≡ 32 → o ≤ 31
-    → answerOf (onceState ks t) o ≡ getD ks o blank .answer
+    → answerOf (memory ks t) o ≡ getD ks o blank .answer
 answer-read ks t o l h =
     let k : 32 ≤ 32 + o = omega arith in
     let e : 32 + o - 32 ≡ o = omega arith in
@@ -89,13 +89,13 @@ answer-read ks t o l h =
     ∙ (getD-append-left (answers ks) t 0 o (omega (arith, length-map ks (λ k. k .answer)))
     ∙ getD-map (λ k. k .answer) ks o blank 0 (omega arith)))
 
-below-read : (ks : List Kept) (t : List ℕ) → length ks ≡ 32 → belowOnce (onceState ks t) ≡ t
+below-read : (ks : List Kept) (t : List ℕ) → length ks ≡ 32 → belowOnce (memory ks t) ≡ t
 below-read ks t l =
     drop-front (serials ks) (answers ks) t (length-map ks (λ k. k .serial) ∙ l) (length-map ks (λ k. k .answer) ∙ l)
 
 keeps-is : (ks : List Kept) (t : List ℕ) (c : Command) (r : List ℕ × ℕ) → length ks ≡ 32 → c .origin ≤ 31
-    → keeps (onceState ks t) c r
-    ≡ (onceState (set ks (c .origin) (record { serial = c .serial; answer = r .1 })) (r .0), r .1)
+    → keeps (memory ks t) c r
+    ≡ (memory (set ks (c .origin) (record { serial = c .serial; answer = r .1 })) (r .0), r .1)
 keeps-is ks t c r l h =
     let k : Kept = record { serial = c .serial; answer = r .1 } in
     ap (λ z. (z, r .1))
@@ -107,26 +107,26 @@ keeps-is ks t c r l h =
 -- the rule at the state of the code, case by case
 pub old-is : (lower : Rule) (ks : List Kept) (t : List ℕ) (c : Command) → length ks ≡ 32 → c .origin ≤ 31
     → (c .serial ≡ 0) ⊎ (c .serial < getD ks (c .origin) blank .serial)
-    → onceRule lower (onceState ks t) c ≡ (onceState ks t, number OldSerial)
+    → onceRule lower (memory ks t) c ≡ (memory ks t, number OldSerial)
 old-is lower ks t c l h e =
-    rule-old lower (onceState ks t) c h
+    rule-old lower (memory ks t) c h
     (⊎-elim inl (λ m. inr (rw (serial-read ks t (c .origin) l h) m)) e)
 
 pub again-is : (lower : Rule) (ks : List Kept) (t : List ℕ) (c : Command) → length ks ≡ 32 → c .origin ≤ 31
     → (c .serial ≡ 0 → ⊥) → c .serial ≡ getD ks (c .origin) blank .serial
-    → onceRule lower (onceState ks t) c ≡ (onceState ks t, getD ks (c .origin) blank .answer)
+    → onceRule lower (memory ks t) c ≡ (memory ks t, getD ks (c .origin) blank .answer)
 again-is lower ks t c l h n e =
-    rule-again lower (onceState ks t) c h n (e ∙ sym (serial-read ks t (c .origin) l h))
-    ∙ ap (λ a. (onceState ks t, a)) (answer-read ks t (c .origin) l h)
+    rule-again lower (memory ks t) c h n (e ∙ sym (serial-read ks t (c .origin) l h))
+    ∙ ap (λ a. (memory ks t, a)) (answer-read ks t (c .origin) l h)
 
 pub higher-is : (lower : Rule) (ks : List Kept) (t : List ℕ) (c : Command) (u : List ℕ) (a : ℕ) → length ks ≡ 32
     → c .origin ≤ 31 → getD ks (c .origin) blank .serial < c .serial → u ≡ lower t c .0 → a ≡ lower t c .1
-    → onceRule lower (onceState ks t) c
-    ≡ (onceState (set ks (c .origin) (record { serial = c .serial; answer = a })) u, a)
+    → onceRule lower (memory ks t) c
+    ≡ (memory (set ks (c .origin) (record { serial = c .serial; answer = a })) u, a)
 higher-is lower ks t c u a l h e eu ea =
-    rule-higher lower (onceState ks t) c h (rw (serial-read ks t (c .origin) l h) e)
-    ∙ (ap (λ z. keeps (onceState ks t) c (lower z c)) (below-read ks t l)
+    rule-higher lower (memory ks t) c h (rw (serial-read ks t (c .origin) l h) e)
+    ∙ (ap (λ z. keeps (memory ks t) c (lower z c)) (below-read ks t l)
     ∙ (keeps-is ks t c (lower t c) l h
-    ∙ (ap (λ x. (onceState (set ks (c .origin) (record { serial = c .serial; answer = x })) (lower t c .0), x))
+    ∙ (ap (λ x. (memory (set ks (c .origin) (record { serial = c .serial; answer = x })) (lower t c .0), x))
     (sym ea)
-    ∙ ap (λ v. (onceState (set ks (c .origin) (record { serial = c .serial; answer = a })) v, a)) (sym eu))))
+    ∙ ap (λ v. (memory (set ks (c .origin) (record { serial = c .serial; answer = a })) v, a)) (sym eu))))

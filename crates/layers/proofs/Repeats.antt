@@ -19,41 +19,41 @@ use Rattle.layers.specs.Passing.{goesLower, passed, isSame, occurs, noneTwice,
 use Rattle.machine.proofs.Places.{getD-set}
 use Rattle.layers.proofs.Memory.{rule-higher}
 
--- what a command that went lower leaves in the memory
-memory : (s : List ℕ) (c : Command) (a : ℕ) → List ℕ
-memory s c a = set (set (take 64 s) (c .origin) (c .serial)) (32 + c .origin) a
+-- what a command that went lower leaves in the front
+front : (s : List ℕ) (c : Command) (a : ℕ) → List ℕ
+front s c a = set (set (take 64 s) (c .origin) (c .serial)) (32 + c .origin) a
 
-memory-long : (s : List ℕ) (c : Command) (a : ℕ) → 64 ≤ length s → length (memory s c a) ≡ 64
-unfolding memory
-memory-long s c a l = simp (length-set) (length-take-le 64 s l)
+front-long : (s : List ℕ) (c : Command) (a : ℕ) → 64 ≤ length s → length (front s c a) ≡ 64
+unfolding front
+front-long s c a l = simp (length-set) (length-take-le 64 s l)
 
 pub keeps-long : (s : List ℕ) (c : Command) (r : List ℕ × ℕ) → 64 ≤ length s → 64 ≤ length (keeps s c r .0)
-unfolding memory
-keeps-long s c r l = omega (arith, length-append (memory s c (r .1)) (r .0), memory-long s c (r .1) l)
+unfolding front
+keeps-long s c r l = omega (arith, length-append (front s c (r .1)) (r .0), front-long s c (r .1) l)
 
 keeps-below : (s : List ℕ) (c : Command) (r : List ℕ × ℕ) → 64 ≤ length s → belowOnce (keeps s c r .0) ≡ r .0
-unfolding memory
-keeps-below s c r l = drop-at (memory s c (r .1)) (r .0) 64 (memory-long s c (r .1) l)
+unfolding front
+keeps-below s c r l = drop-at (front s c (r .1)) (r .0) 64 (front-long s c (r .1) l)
 
 keeps-serial : (s : List ℕ) (c : Command) (r : List ℕ × ℕ) (o : ℕ) → 64 ≤ length s → c .origin ≤ 31 → o ≤ 31
     → serialOf (keeps s c r .0) o ≡ cond (eqb (c .origin) o) (c .serial) (serialOf s o)
-unfolding memory
+unfolding front
 keeps-serial s c r o l h k =
-    let m = memory-long s c (r .1) l in
+    let m = front-long s c (r .1) l in
     let n = length-take-le 64 s l in
-    getD-append-left (memory s c (r .1)) (r .0) 0 o (omega arith)
+    getD-append-left (front s c (r .1)) (r .0) 0 o (omega arith)
     ∙ (getD-set-other (set (take 64 s) (c .origin) (c .serial)) (32 + c .origin) o (r .1) 0 (omega arith)
     ∙ (getD-set (take 64 s) (c .origin) o (c .serial) (omega arith)
     ∙ ap (cond (eqb (c .origin) o) (c .serial)) (getD-take 64 s o 0 (omega arith))))
 
 keeps-answer : (s : List ℕ) (c : Command) (r : List ℕ × ℕ) (o : ℕ) → 64 ≤ length s → c .origin ≤ 31 → o ≤ 31
     → answerOf (keeps s c r .0) o ≡ cond (eqb (c .origin) o) (r .1) (answerOf s o)
-unfolding memory
+unfolding front
 keeps-answer s c r o l h k =
-    let m = memory-long s c (r .1) l in
+    let m = front-long s c (r .1) l in
     let n = length-take-le 64 s l in
     let e : eqb (32 + c .origin) (32 + o) ≡ eqb (c .origin) o = grind (arith, tells) in
-    getD-append-left (memory s c (r .1)) (r .0) 0 (32 + o) (omega arith)
+    getD-append-left (front s c (r .1)) (r .0) 0 (32 + o) (omega arith)
     ∙ (getD-set (set (take 64 s) (c .origin) (c .serial)) (32 + c .origin) (32 + o) (r .1)
     (omega (arith, length-set (take 64 s) (c .origin) (c .serial)))
     ∙ (ap (λ b. cond b (r .1) (getD (set (take 64 s) (c .origin) (c .serial)) (32 + o) 0)) e

@@ -8,7 +8,7 @@ use Rattle.command.specs.declared.Command.{Command}
 use Rattle.machine.specs.Rules.{Rule, after}
 use Rattle.machine.specs.Pools.{poolStart, poolRule, weight}
 use Rattle.machine.proofs.Weighing.{weights-bounded}
-use Rattle.layers.specs.Freezing.{isFrozen, belowFreeze, freezes, thaws, freezeState, freezeRule}
+use Rattle.layers.specs.Freezing.{isFrozen, belowFreeze, freezes, thaws, freezeStart, freezeRule}
 use Rattle.layers.specs.Once.{onceStart}
 use Rattle.layers.specs.Passing.{passed}
 use Rattle.layers.specs.Stacks.{Stack-bounded}
@@ -41,7 +41,7 @@ through lower s (c ∷ cs) =
 pub stack-bounded : Stack-bounded
 unfolding Got
 stack-bounded cs k =
-    let start = freezeState false poolStart in
+    let start = freezeStart poolStart in
     let (ds, e) = through poolRule start (passed (freezeRule poolRule) (onceStart start) cs) in
     let P : List ℕ → Type 0 = λ s. weight s k ≤ 1000 in
     subst P (sym (ap belowFreeze (acts-once (freezeRule poolRule) start cs .acted) ∙ e)) (weights-bounded ds k)

@@ -6,13 +6,18 @@ use Prim.Native.Nat.{ℕ}
 use lib.Dec.{eqb}
 use lib.ListN.{getD, drop}
 use Rattle.command.specs.declared.Command.{Command}
+use Rattle.layers.specs.declared.freezing.Freeze.{Freeze}
 use Rattle.machine.specs.declared.denials.Denial.the-variants.{Frozen}
 use Rattle.machine.specs.Denials.{number}
 use Rattle.machine.specs.Rules.{Rule, after}
 
 -- the state: 1 while frozen, else 0, and then the state of the machine below
-abbrev pub freezeState : Bool → List ℕ → List ℕ
-freezeState frozen s = cond frozen 1 0 ∷ s
+abbrev pub freezeState : {M : Type 0} → (M → List ℕ) → Freeze M → List ℕ
+freezeState state f = cond (f .frozen) 1 0 ∷ state (f .lower)
+
+-- not frozen at first
+abbrev pub freezeStart : List ℕ → List ℕ
+freezeStart s = 0 ∷ s
 
 abbrev pub isFrozen : List ℕ → Bool
 isFrozen s = eqb (getD s 0 0) 1
@@ -39,8 +44,12 @@ abbrev pub noThaw : List Command → Bool
 noThaw [] = true
 noThaw (c ∷ cs) = not (thaws c) && noThaw cs
 
--- while frozen nothing below changes: no list of commands without a thaw changes it
+-- t is frozen, and below it is what was below s
+pub record Still (s t : List ℕ) : Type 0 where
+  pub frozen : isFrozen t ≡ true
+  pub below : belowFreeze t ≡ belowFreeze s
+
+-- while frozen nothing below changes: a frozen state stays so, with the same below, over any list without a thaw
 abbrev pub Frozen-below : Rule → Type 0
 Frozen-below lower =
-    (s : List ℕ) (cs : List Command) → isFrozen s ≡ true → noThaw cs ≡ true
-    → belowFreeze (after (freezeRule lower) s cs) ≡ belowFreeze s
+    (s : List ℕ) (cs : List Command) → isFrozen s ≡ true → noThaw cs ≡ true → Still s (after (freezeRule lower) s cs)

@@ -6,13 +6,18 @@ use lib.Dec.{eqb, ltb}
 use lib.ListN.{getD, set, take, drop, replicate}
 use Rattle.command.specs.declared.Command.{Command}
 use Rattle.layers.specs.declared.once.Kept.{Kept}
+use Rattle.layers.specs.declared.once.OnceOnly.{OnceOnly}
 use Rattle.machine.specs.declared.denials.Denial.the-variants.{UnknownOrigin, OldSerial}
 use Rattle.machine.specs.Denials.{number}
 use Rattle.machine.specs.Rules.{Rule}
 
--- the state: the highest serials of the origins 0 to 31, then what they were answered, then the state below
-abbrev pub onceState : List Kept → List ℕ → List ℕ
-onceState ks s = map (λ k. k .serial) ks ++ (map (λ k. k .answer) ks ++ s)
+-- the highest serials of the origins 0 to 31, then what they were answered, in front of the state below
+abbrev pub memory : List Kept → List ℕ → List ℕ
+memory ks s = map (λ k. k .serial) ks ++ (map (λ k. k .answer) ks ++ s)
+
+-- the state: what is kept, and then the state of the machine below
+abbrev pub onceState : {M : Type 0} → (M → List ℕ) → OnceOnly M → List ℕ
+onceState state o = memory (o .kept) (state (o .lower))
 
 -- at first nothing is kept, for which 0 stands
 abbrev pub onceStart : List ℕ → List ℕ

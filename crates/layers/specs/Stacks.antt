@@ -1,15 +1,20 @@
 -- The stack: once-only over freeze over the pool.
-use mathlib.Core.Bool.{false}
 use mathlib.Core.List.{List}
 use Prim.Native.Nat.{ℕ, _≤_}
 use Rattle.command.specs.declared.Command.{Command}
+use Rattle.machine.specs.declared.pools.Pool.{Pool}
+use Rattle.layers.specs.declared.freezing.Freeze.{Freeze}
+use Rattle.layers.specs.declared.once.OnceOnly.{OnceOnly}
 use Rattle.machine.specs.Rules.{Rule, after}
-use Rattle.machine.specs.Pools.{poolStart, poolRule, weight}
-use Rattle.layers.specs.Freezing.{freezeState, freezeRule, belowFreeze}
-use Rattle.layers.specs.Once.{onceStart, onceRule, belowOnce}
+use Rattle.machine.specs.Pools.{poolState, poolStart, poolRule, weight}
+use Rattle.layers.specs.Freezing.{freezeState, freezeStart, freezeRule, belowFreeze}
+use Rattle.layers.specs.Once.{onceState, onceStart, onceRule, belowOnce}
+
+abbrev pub stackState : OnceOnly (Freeze Pool) → List ℕ
+stackState s = onceState (freezeState poolState) s
 
 abbrev pub stackStart : List ℕ
-stackStart = onceStart (freezeState false poolStart)
+stackStart = onceStart (freezeStart poolStart)
 
 abbrev pub stackRule : Rule
 stackRule = onceRule (freezeRule poolRule)

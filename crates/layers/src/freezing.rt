@@ -1,7 +1,6 @@
 //! Freeze: a layer that can keep every command from the machine below.
 
-ghost use Rattle.layers.specs.Freezing.{freezeState, freezeRule, Frozen-below};
-ghost use mathlib.Core.Bool.{false};
+ghost use Rattle.layers.specs.Freezing.{freezeState, freezeStart, freezeRule, Frozen-below};
 ghost use mathlib.Core.Path.{_≡_};
 use command::Command;
 use machine::Denial;
@@ -22,7 +21,7 @@ const THAW: u8 = 49;
 impl<M: Machine> Freeze<M> {
     /// This machine with freeze over it, not frozen. While it is frozen, nothing below changes.
     pub fn over(lower: M) -> Freeze<M>
-        ensures thawed { λ r. ⌜ r .frozen ≡ false ⌝ }
+        ensures start { λ r. ⌜ freezeState (M·Machine .state) r ≡ freezeStart (M·Machine .state lower) ⌝ }
         ensures lower { λ r. ⌜ r .lower ≡ lower ⌝ }
         ensures still { λ _. ⌜ Frozen-below (M·Machine .rule) ⌝ }
     {
@@ -41,9 +40,9 @@ impl<M: Machine> Freeze<M> {
 }
 
 pub impl<M: Machine> Machine for Freeze<M> as FreezeMachine {
-    ghost state = { λ f. freezeState (f .frozen) (M·Machine .state (f .lower)) };
+    ghost state = { freezeState (M·Machine .state) };
 
-    ghost start = { freezeState false (M·Machine .start) };
+    ghost start = { freezeStart (M·Machine .start) };
 
     ghost rule = { freezeRule (M·Machine .rule) };
 

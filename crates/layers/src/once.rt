@@ -32,8 +32,7 @@ impl<M: Machine> OnceOnly<M> {
     /// This machine with once-only over it, which keeps nothing yet. Whatever commands it gets, each origin and serial
     /// acts at most once below, and a repeated highest serial gets the same answer.
     pub fn over(lower: M) -> OnceOnly<M>
-        ensures start { λ r. ⌜ onceState (r .kept) (M·Machine .state (r .lower))
-            ≡ onceStart (M·Machine .state lower) ⌝ }
+        ensures start { λ r. ⌜ onceState (M·Machine .state) r ≡ onceStart (M·Machine .state lower) ⌝ }
         ensures lower { λ r. ⌜ r .lower ≡ lower ⌝ }
         ensures once { λ _. ⌜ Acts-once (M·Machine .rule) ⌝ }
         ensures again { λ _. ⌜ Same-answer (M·Machine .rule) ⌝ }
@@ -53,7 +52,7 @@ impl<M: Machine> OnceOnly<M> {
 }
 
 pub impl<M: Machine> Machine for OnceOnly<M> as OnceOnlyMachine {
-    ghost state = { λ o. onceState (o .kept) (M·Machine .state (o .lower)) };
+    ghost state = { onceState (M·Machine .state) };
 
     ghost start = { onceStart (M·Machine .start) };
 

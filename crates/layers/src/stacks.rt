@@ -1,8 +1,6 @@
 //! The stack: once-only over freeze over the pool.
 
-ghost use Rattle.layers.specs.Freezing.{freezeState};
-ghost use Rattle.layers.specs.Once.{onceState};
-ghost use Rattle.layers.specs.Stacks.{stackStart, Stack-bounded};
+ghost use Rattle.layers.specs.Stacks.{stackState, stackStart, Stack-bounded};
 ghost use mathlib.Core.Path.{_≡_};
 use crate::Freeze;
 use crate::FreezeMachine;
@@ -16,8 +14,7 @@ pub type Stack = OnceOnly<Freeze<Pool>>;
 /// The stack at its start: nothing kept, not frozen, all weights 0. Whatever commands it gets, no weight exceeds
 /// 1,000.
 pub fn new_stack() -> Stack
-    ensures start { λ r. ⌜ onceState (r .kept) (freezeState (r .lower .frozen) (r .lower .lower .weights))
-        ≡ stackStart ⌝ }
+    ensures start { λ r. ⌜ stackState r ≡ stackStart ⌝ }
     ensures bounded { λ _. ⌜ Stack-bounded ⌝ }
 {
     let pool = Pool::new();

@@ -5,11 +5,16 @@ use Prim.Native.Nat.{ℕ, _≤_}
 use lib.Dec.{eqb, leb}
 use lib.ListN.{getD, set, replicate}
 use Rattle.command.specs.declared.Command.{Command}
+use Rattle.machine.specs.declared.pools.Pool.{Pool}
 use Rattle.machine.specs.declared.denials.Denial.the-variants.{NoEffect}
 use Rattle.machine.specs.Denials.{number}
 use Rattle.machine.specs.Rules.{after}
 
--- the state is the list of the 64 weights, all 0 at first
+-- the state is the list of the 64 weights
+abbrev pub poolState : Pool → List ℕ
+poolState p = p .weights
+
+-- all weights are 0 at first
 abbrev pub poolStart : List ℕ
 poolStart = replicate 64 0
 

@@ -1,6 +1,6 @@
 //! The pool: weights of backends.
 
-ghost use Rattle.machine.specs.Pools.{poolStart, poolRule, weight, Weights-bounded};
+ghost use Rattle.machine.specs.Pools.{poolState, poolStart, poolRule, weight, Weights-bounded};
 ghost use mathlib.Core.Path.{_≡_};
 use crate::Denial;
 use crate::Machine;
@@ -23,7 +23,7 @@ const HEAVIEST: u16 = 1_000;
 impl Pool {
     /// The pool in which every weight is 0. Whatever commands it gets, no weight ever exceeds 1,000.
     pub fn new() -> Pool
-        ensures start { λ r. ⌜ r .weights ≡ poolStart ⌝ }
+        ensures start { λ r. ⌜ poolState r ≡ poolStart ⌝ }
         ensures bounded { λ _. ⌜ Weights-bounded ⌝ }
     {
         Pool { weights: [0; 64] }
@@ -31,7 +31,7 @@ impl Pool {
 
     /// The weight of a backend; 0 for a number above 63, which is no backend's.
     pub fn weight(&self, backend: u8) -> u16
-        ensures { λ r. ⌜ r ≡ weight (now (self .entry) .weights) backend ⌝ }
+        ensures { λ r. ⌜ r ≡ weight (poolState (now (self .entry))) backend ⌝ }
     {
         if backend > 63 {
             return 0;
@@ -41,7 +41,7 @@ impl Pool {
 }
 
 pub impl Machine for Pool as PoolMachine {
-    ghost state = { λ p. p .weights };
+    ghost state = { poolState };
 
     ghost start = { poolStart };
 
