@@ -1,0 +1,5 @@
+pub mod Still
+pub mod Memory
+pub mod Repeats
+pub mod Again
+pub mod Through

@@ -1,0 +1,4 @@
+pub mod Freezing
+pub mod Once
+pub mod Passing
+pub mod Stacks

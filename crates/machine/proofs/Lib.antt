@@ -1,0 +1,4 @@
+pub mod Places
+pub mod Runs
+pub mod Weighing
+pub mod Sharing

@@ -1,0 +1,4 @@
+pub mod Rules
+pub mod Denials
+pub mod Pools
+pub mod Ledgers
