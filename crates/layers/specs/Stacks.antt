@@ -13,6 +13,10 @@ use Rattle.layers.specs.Once.{onceState, onceStart, onceRule, belowOnce}
 abbrev pub stackState : OnceOnly (Freeze Pool) → List ℕ
 stackState s = onceState (freezeState poolState) s
 
+-- the pool below both layers
+abbrev pub stackPool : OnceOnly (Freeze Pool) → Pool
+stackPool s = s .lower .lower
+
 abbrev pub stackStart : List ℕ
 stackStart = onceStart (freezeStart poolStart)
 

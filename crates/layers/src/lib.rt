@@ -10,6 +10,7 @@ pub use once::OnceOnly;
 pub use once::OnceOnlyMachine;
 pub use stacks::Stack;
 pub use stacks::new_stack;
+pub use stacks::stack_weight;
 
 #[cfg(test)]
 mod tests {

@@ -1,6 +1,7 @@
 //! The stack: once-only over freeze over the pool.
 
-ghost use Rattle.layers.specs.Stacks.{stackState, stackStart, Stack-bounded};
+ghost use Rattle.layers.specs.Stacks.{stackState, stackStart, stackPool, Stack-bounded};
+ghost use Rattle.machine.specs.Pools.{poolState, weight};
 ghost use mathlib.Core.Path.{_≡_};
 use crate::Freeze;
 use crate::FreezeMachine;
@@ -20,4 +21,11 @@ pub fn new_stack() -> Stack
     let pool = Pool::new();
     let freeze = Freeze::over(pool);
     OnceOnly::over(freeze)
+}
+
+/// The weight of a backend below both layers; 0 where there is no such backend.
+pub fn stack_weight(stack: &Stack, backend: u8) -> u16
+    ensures { λ r. ⌜ r ≡ weight (poolState (stackPool (now (stack .entry)))) backend ⌝ }
+{
+    stack.lower().lower().weight(backend)
 }
