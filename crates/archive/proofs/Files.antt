@@ -49,7 +49,7 @@ counted f cs None e = (refl, go (hasCount f cs) e)
 -- the first broken part, by what the tests found
 pub fault-by : (f : List ℕ) (a b c : Bool) → ltb (length f) 8 ≡ a → hasMark f ≡ b → hasChain f ≡ c
     → fault f ≡ cond a (Some 0)
-        (cond b (cond c (orCount f (scanned f .commands) (scanned f .broken)) (Some 4)) (Some 0))
+    (cond b (cond c (orCount f (scanned f .commands) (scanned f .broken)) (Some 4)) (Some 0))
 fault-by f a b c p q r = λ j. cond (p j) (Some 0)
     (cond (q j) (cond (r j) (orCount f (scanned f .commands) (scanned f .broken)) (Some 4)) (Some 0))
 
@@ -78,7 +78,7 @@ module _ (ms body tail : List ℕ) (two : length tail ≡ 2) where
   laid-body =
       let file = laid ms body tail in
       let front : take (countAt file) file ≡ header ms ++ body =
-              ap (take (countAt file)) shape ∙ take-at (header ms ++ body) tail (countAt file) (sym laid-count) in
+      ap (take (countAt file)) shape ∙ take-at (header ms ++ body) tail (countAt file) (sym laid-count) in
       ap (drop (startOf file)) front ∙ drop-at (header ms) body (startOf file) (omega arith)
 
   laid-tail : drop (countAt (laid ms body tail)) (laid ms body tail) ≡ tail
@@ -107,17 +107,17 @@ written f ms cs a =
     let length-is = laid-length ms (entries cs) (le 2 (length cs)) refl in
     let members = laid-members ms (entries cs) (le 2 (length cs)) refl in
     let scan : scanned file ≡ found cs None =
-            ap (scanAll (countAt file)) (laid-body ms (entries cs) (le 2 (length cs)) refl)
-            ∙ scan-entries cs (countAt file) (a .formed) (a .sized) in
+    ap (scanAll (countAt file)) (laid-body ms (entries cs) (le 2 (length cs)) refl)
+    ∙ scan-entries cs (countAt file) (a .formed) (a .sized) in
     let chain : hasChain file ≡ true =
-            and-from (leb (startOf file) (countAt file)) (validChain (membersOf file))
-            (le-leb (startOf file) (countAt file) (omega arith)) (ap validChain members ∙ a .chain) in
+    and-from (leb (startOf file) (countAt file)) (validChain (membersOf file))
+    (le-leb (startOf file) (countAt file) (omega arith)) (ap validChain members ∙ a .chain) in
     let count : hasCount file cs ≡ true =
-            eq-eqb (num (drop (countAt file) file)) (length cs)
-            (ap num (laid-tail ms (entries cs) (le 2 (length cs)) refl) ∙ num-le 2 (length cs) (omega (arith, a .few))) in
+    eq-eqb (num (drop (countAt file) file)) (length cs)
+    (ap num (laid-tail ms (entries cs) (le 2 (length cs)) refl) ∙ num-le 2 (length cs) (omega (arith, a .few))) in
     let all : fault file ≡ None =
-            fault-by file false true true (le-ltb (length file) 8 (omega arith)) refl chain
-            ∙ (ap (λ s. orCount file (s .commands) (s .broken)) scan ∙ cond-true (hasCount file cs) None (Some (countAt file)) count) in
+    fault-by file false true true (le-ltb (length file) 8 (omega arith)) refl chain
+    ∙ (ap (λ s. orCount file (s .commands) (s .broken)) scan ∙ cond-true (hasCount file cs) None (Some (countAt file)) count) in
     rw same (all, members, ap (λ s. s .commands) scan)
 
 -- ---- what is found whole was written
@@ -140,7 +140,7 @@ module _ (f : List ℕ) (fits : startOf f ≤ countAt f) (long : 8 ≤ length f)
   front-header : take 4 f ≡ mark → take (startOf f) f ≡ header (membersOf f)
   front-header marked =
       let five : take 5 f ≡ mark ++ (getD f 4 0 ∷ []) =
-              sym (part-join 0 4 1 f) ∙ ap₂ (λ (xs ys : List ℕ). xs ++ ys) marked (part-more 4 0 f (omega arith)) in
+      sym (part-join 0 4 1 f) ∙ ap₂ (λ (xs ys : List ℕ). xs ++ ys) marked (part-more 4 0 f (omega arith)) in
       sym (part-join 0 5 (getD f 4 0) f) ∙ ap (λ (xs : List ℕ). xs ++ membersOf f) five
       ∙ ap (λ (n : ℕ). mark ++ (n ∷ membersOf f)) (sym members-length)
 
@@ -163,17 +163,17 @@ read-back f b e =
     let bytes-tail = all-drop (λ x. x < 256) (countAt f) f b in
     let number = eqb-true (num tail) (length cs) (q .1) in
     let count : le 2 (length cs) ≡ tail =
-            ap₂ le (sym two) (sym number) ∙ le-num tail bytes-tail in
+    ap₂ le (sym two) (sym number) ∙ le-num tail bytes-tail in
     let small : num tail < 256 ^ 2 = let n = num-fits tail bytes-tail in rw two at n in
     record {
       laid = sym (three-parts f fits long)
           ∙ ap₂ (λ (xs ys : List ℕ). xs ++ (ys ++ tail))
-              (front-header f fits long (sameBytes-decides (take 4 f) mark .0 (p .marked))) (sym (w .bytes))
+          (front-header f fits long (sameBytes-decides (take 4 f) mark .0 (p .marked))) (sym (w .bytes))
           ∙ ap (λ (xs : List ℕ). header (membersOf f) ++ (entries cs ++ xs)) (sym count);
       chain = c .1;
       formed = w .formed;
       sized = w .sized;
-      few = omega arith
+      few = omega arith;
     }
 
 pub exact : (f : List ℕ) → Bytes f → Exact f

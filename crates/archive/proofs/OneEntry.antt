@@ -35,8 +35,8 @@ kind : (n : ℕ) → Is (verbOf n) n
 kind n =
     cond-both (eqb n 0) (Some Noop) _ (λ v. Is v n) (λ e. eqb-true n 0 e)
     (λ _. cond-both (eqb n 1) (Some Add) _ (λ v. Is v n) (λ e. eqb-true n 1 e)
-        (λ _. cond-both (eqb n 2) (Some Remove) _ (λ v. Is v n) (λ e. eqb-true n 2 e)
-            (λ _. cond-both (leb 16 n) (Some Change) None (λ v. Is v n) (λ e. leb-true 16 n e) (λ _. tt))))
+    (λ _. cond-both (eqb n 2) (Some Remove) _ (λ v. Is v n) (λ e. eqb-true n 2 e)
+    (λ _. cond-both (leb 16 n) (Some Change) None (λ v. Is v n) (λ e. leb-true 16 n e) (λ _. tt))))
 
 kind-of : (n : ℕ) (v : Option Verb) → verbOf n ≡ v → Is v n
 kind-of n v e = subst (λ w. Is w n) e (kind n)
@@ -77,7 +77,7 @@ reread-as (Some Noop) c t e h s =
       size = ap (λ v. within (length bs) (sizeAs v (getD bs 1 0))) e ∙ within-all 1 (length bs) (omega arith);
       same = ap (λ v. commandAs v bs) e
           ∙ same-command _ c (sym (kind-of (c .verb) (Some Noop) e)) (sym (u .origin)) (sym (u .serial)) (sym (eqb-true _ 0 (p .1))) (sym (u .b));
-      some = omega arith
+      some = omega arith;
     }
 reread-as (Some Add) c t e h s =
     let p = and-parts (untold c) (leb (c .a) 31) h in
@@ -88,7 +88,7 @@ reread-as (Some Add) c t e h s =
           ∙ ap (within (length bs)) (cond-true (leb (c .a) 31) 2 0 (p .1)) ∙ within-all 2 (length bs) (omega arith);
       same = ap (λ v. commandAs v bs) e
           ∙ same-command _ c (sym (kind-of (c .verb) (Some Add) e)) (sym (u .origin)) (sym (u .serial)) refl (sym (u .b));
-      some = omega arith
+      some = omega arith;
     }
 reread-as (Some Remove) c t e h s =
     let p = and-parts (untold c) (leb (c .a) 31) h in
@@ -99,7 +99,7 @@ reread-as (Some Remove) c t e h s =
           ∙ ap (within (length bs)) (cond-true (leb (c .a) 31) 2 0 (p .1)) ∙ within-all 2 (length bs) (omega arith);
       same = ap (λ v. commandAs v bs) e
           ∙ same-command _ c (sym (kind-of (c .verb) (Some Remove) e)) (sym (u .origin)) (sym (u .serial)) refl (sym (u .b));
-      some = omega arith
+      some = omega arith;
     }
 reread-as (Some Change) c t e h s =
     let bs = entryAs (Some Change) c ++ t in
@@ -107,8 +107,8 @@ reread-as (Some Change) c t e h s =
       size = ap (λ v. within (length bs) (sizeAs v (getD bs 1 0))) e ∙ within-all (7 + serialBytes) (length bs) (omega arith);
       same = ap (λ v. commandAs v bs) e
           ∙ same-command _ c refl (num-le 2 (c .origin) (s .origin)) (num-le serialBytes (c .serial) (s .serial))
-              (num-le 2 (c .a) (s .a)) (num-le 2 (c .b) (s .b));
-      some = omega arith
+          (num-le 2 (c .a) (s .a)) (num-le 2 (c .b) (s .b));
+      some = omega arith;
     }
 
 pub reread : (c : Command) (t : List ℕ) → wellFormed c ≡ true → Sized c → Reread (verbOf (c .verb)) c t
@@ -133,7 +133,7 @@ pub part-join : (i n m : ℕ) (bs : List ℕ) → part i n bs ++ part (i + n) m 
 part-join i n m bs =
     let l = drop i bs in
     ap₂ (λ (xs ys : List ℕ). xs ++ ys) (sym (take-take n (n + m) l (omega arith)))
-        (ap (take m) (sym (drop-drop n i bs)) ∙ sym (drop-take n m l))
+    (ap (take m) (sym (drop-drop n i bs)) ∙ sym (drop-take n m l))
     ∙ take-append-drop n (take (n + m) l)
 
 module _ (bs : List ℕ) (h : Bytes bs) (i n : ℕ) (l : i + n ≤ length bs) where
@@ -161,21 +161,22 @@ module _ (n : ℕ) (low : n < 256) (bs : List ℕ) (h : Bytes bs) (e : getD bs 0
       → Rewritten (directed n (getD bs 1 0)) bs (within (length bs) (cond (leb (getD bs 1 0) 31) 2 0))
   unfolding directed
   two-bytes some =
-      elim (cases-bool (leb (getD bs 1 0) 31))
-      [ inl y ↦
-          let size = cond-true {A = ℕ} (leb (getD bs 1 0) 31) 2 0 y in
-          let w = within-some 2 (length bs) (λ z. some (ap (within (length bs)) size ∙ z)) in
-          let a = leb-true (getD bs 1 0) 31 y in
-          let first = part-two 0 bs (omega arith) in
-          rw (size, w .0)
-          (record {
-            formed = formed ∙ y;
-            sized = record { verb = low; origin = omega arith; serial = omega arith; a = omega arith; b = omega arith };
-            bytes = written ∙ ap (λ (x : ℕ). x ∷ getD bs 1 0 ∷ []) (sym e) ∙ sym first;
-            some = omega arith;
-            fits = w .1
-          })
-      | inr z ↦ absurd (some (ap (within (length bs)) (cond-false {A = ℕ} (leb (getD bs 1 0) 31) 2 0 z) ∙ within-all 0 (length bs) (omega arith))) ]
+      elim (cases-bool (leb (getD bs 1 0) 31)) [
+        | inl y ↦
+            let size = cond-true {A = ℕ} (leb (getD bs 1 0) 31) 2 0 y in
+            let w = within-some 2 (length bs) (λ z. some (ap (within (length bs)) size ∙ z)) in
+            let a = leb-true (getD bs 1 0) 31 y in
+            let first = part-two 0 bs (omega arith) in
+            rw (size, w .0)
+            (record {
+              formed = formed ∙ y;
+              sized = record { verb = low; origin = omega arith; serial = omega arith; a = omega arith; b = omega arith };
+              bytes = written ∙ ap (λ (x : ℕ). x ∷ getD bs 1 0 ∷ []) (sym e) ∙ sym first;
+              some = omega arith;
+              fits = w .1;
+            })
+        | inr z ↦ absurd (some (ap (within (length bs)) (cond-false {A = ℕ} (leb (getD bs 1 0) 31) 2 0 z) ∙ within-all 0 (length bs) (omega arith)))
+      ]
 
 rewritten-as : (v : Option Verb) (bs : List ℕ) → Bytes bs → verbOf (getD bs 0 0) ≡ v
     → (within (length bs) (sizeAs v (getD bs 1 0)) ≡ 0 → ⊥)
@@ -190,7 +191,7 @@ rewritten-as (Some Noop) bs h e some =
       sized = record { verb = omega arith; origin = omega arith; serial = omega arith; a = omega arith; b = omega arith };
       bytes = ap (λ (x : ℕ). x ∷ []) (sym (kind-of (getD bs 0 0) (Some Noop) e)) ∙ sym (part-more 0 0 bs (w .1));
       some = omega arith;
-      fits = w .1
+      fits = w .1;
     })
 rewritten-as (Some Add) bs h e some = two-bytes 1 (omega arith) bs h (kind-of (getD bs 0 0) (Some Add) e) refl refl some
 rewritten-as (Some Remove) bs h e some = two-bytes 2 (omega arith) bs h (kind-of (getD bs 0 0) (Some Remove) e) refl refl some
@@ -199,13 +200,13 @@ rewritten-as (Some Change) bs h e some =
     let c = commandAs (Some Change) bs in
     let l : 7 + serialBytes ≤ length bs = w .1 in
     let tail : part 1 2 bs ++ (part 3 serialBytes bs ++ (part 7 2 bs ++ part 9 2 bs)) ≡ part 1 10 bs =
-            ap (λ (xs : List ℕ). part 1 2 bs ++ (part 3 serialBytes bs ++ xs)) (part-join 7 2 2 bs)
-            ∙ ap (λ (xs : List ℕ). part 1 2 bs ++ xs) (part-join 3 4 4 bs) ∙ part-join 1 2 8 bs in
+    ap (λ (xs : List ℕ). part 1 2 bs ++ (part 3 serialBytes bs ++ xs)) (part-join 7 2 2 bs)
+    ∙ ap (λ (xs : List ℕ). part 1 2 bs ++ xs) (part-join 3 4 4 bs) ∙ part-join 1 2 8 bs in
     let same : le 2 (num (part 1 2 bs)) ++ (le serialBytes (num (part 3 serialBytes bs))
-                ++ (le 2 (num (part 7 2 bs)) ++ le 2 (num (part 9 2 bs))))
-                ≡ part 1 2 bs ++ (part 3 serialBytes bs ++ (part 7 2 bs ++ part 9 2 bs)) =
-            λ j. le-part bs h 1 2 (omega arith) j ++ (le-part bs h 3 serialBytes (omega arith) j
-                ++ (le-part bs h 7 2 (omega arith) j ++ le-part bs h 9 2 (omega arith) j)) in
+    ++ (le 2 (num (part 7 2 bs)) ++ le 2 (num (part 9 2 bs))))
+    ≡ part 1 2 bs ++ (part 3 serialBytes bs ++ (part 7 2 bs ++ part 9 2 bs)) =
+    λ j. le-part bs h 1 2 (omega arith) j ++ (le-part bs h 3 serialBytes (omega arith) j
+    ++ (le-part bs h 7 2 (omega arith) j ++ le-part bs h 9 2 (omega arith) j)) in
     rw (w .0)
     (record {
       formed = ap (λ v. fits v c) e;
@@ -214,12 +215,12 @@ rewritten-as (Some Change) bs h e some =
         origin = num-part bs h 1 2 (omega arith);
         serial = num-part bs h 3 serialBytes (omega arith);
         a = num-part bs h 7 2 (omega arith);
-        b = num-part bs h 9 2 (omega arith)
+        b = num-part bs h 9 2 (omega arith);
       };
       bytes = ap (λ v. entryAs v c) e ∙ ap (λ (xs : List ℕ). getD bs 0 0 ∷ xs) (same ∙ tail)
           ∙ sym (part-more 0 10 bs (omega arith));
       some = omega arith;
-      fits = l
+      fits = l;
     })
 
 pub rewritten : (bs : List ℕ) → Bytes bs → (sizeOf bs ≡ 0 → ⊥) → Rewritten (commandOf bs) bs (sizeOf bs)

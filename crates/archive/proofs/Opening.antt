@@ -71,7 +71,7 @@ module _ (f : List ℕ) (long : 8 ≤ length f) where
 
         module _ (n : ℕ)
             (found : (scanAll (countAt f) (take (countAt f - startOf f) (drop (startOf f) f)) .broken ≡ None)
-                × (n ≡ length (scanAll (countAt f) (take (countAt f - startOf f) (drop (startOf f) f)) .commands)))
+            × (n ≡ length (scanAll (countAt f) (take (countAt f - startOf f) (drop (startOf f) f)) .commands)))
             (k : ℕ) (told : k ≡ num (part (countAt f) 2 f)) where
           pub count-is : n ≡ length (scanned f .commands)
           count-is = found .1 ∙ ap (λ s. length (s .commands)) cut-scan
@@ -85,9 +85,9 @@ module _ (f : List ℕ) (long : 8 ≤ length f) where
           pub fault-count : (k ≡ n → ⊥) → fault f ≡ Some (countAt f)
           fault-count ne =
               counted ∙ ap (λ b. cond b None (Some (countAt f)))
-                  (ne-eqb (num (drop (countAt f) f)) (length (scanned f .commands)) (λ e. ne (stored ∙ e ∙ sym count-is)))
+              (ne-eqb (num (drop (countAt f) f)) (length (scanned f .commands)) (λ e. ne (stored ∙ e ∙ sym count-is)))
 
           pub fault-none : k ≡ n → fault f ≡ None
           fault-none e =
               counted ∙ ap (λ b. cond b None (Some (countAt f)))
-                  (eq-eqb (num (drop (countAt f) f)) (length (scanned f .commands)) (sym stored ∙ e ∙ count-is))
+              (eq-eqb (num (drop (countAt f) f)) (length (scanned f .commands)) (sym stored ∙ e ∙ count-is))

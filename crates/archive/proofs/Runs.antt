@@ -57,7 +57,7 @@ begun-holds old ms h =
       count = refl;
       content = ap (λ (n : ℕ). take n (over old 0 (header ms))) zero-at ∙ take-over old 0 (header ms) (omega arith)
           ∙ sym (append-nil (header ms));
-      room = omega arith
+      room = omega arith;
     }
 
 grown-holds : (old : List ℕ) (o : OpenArchive) (ms : List ℕ) (cs : List Command) (c : Command) → Holds old o ms cs
@@ -72,7 +72,7 @@ grown-holds old o ms cs c h s e =
     let more = length-push cs c in
     let count = h .count in
     let bytes : (header ms ++ entries cs) ++ entry c ≡ header ms ++ entries (cs ++ (c ∷ [])) =
-            joined-more entry (header ms) cs c in
+    joined-more entry (header ms) cs c in
     record {
       chain = h .chain;
       formed = all-push (λ d. wellFormed d ≡ true) cs c (h .formed) (p .0);
@@ -81,7 +81,7 @@ grown-holds old o ms cs c h s e =
       end = ap (λ (n : ℕ). n + length (entry c)) (h .end) ∙ sym (length-append (header ms ++ entries cs) (entry c)) ∙ ap length bytes;
       count = omega arith;
       content = take-over old (o .at) (entry c) (omega arith) ∙ ap (λ (xs : List ℕ). xs ++ entry c) (h .content) ∙ bytes;
-      room = omega arith
+      room = omega arith;
     }
 
 pub holds : {area : List ℕ} {o : OpenArchive} {ms : List ℕ} {cs : List Command} → Run area o ms cs → Holds area o ms cs
@@ -98,13 +98,13 @@ sealing area exit o ms cs e r =
     let h = holds r in
     let room = h .room in
     let accepted : sealRefusal area o ≡ None =
-            cond-true (hasRoom area (o .at) 0) None (Some NoSpace) (le-leb (o .at + 0 + 2) (length area) (omega arith)) in
+    cond-true (hasRoom area (o .at) 0) None (Some NoSpace) (le-leb (o .at + 0 + 2) (length area) (omega arith)) in
     let file : take (o .at + 2) exit ≡ layout ms cs =
-            ap (take (o .at + 2)) (e ∙ ap (λ x. left x area (over area (o .at) (le 2 (o .count)))) accepted)
-            ∙ take-over area (o .at) (le 2 (o .count)) (omega arith)
-            ∙ ap₂ (λ (xs : List ℕ) (n : ℕ). xs ++ le 2 n) (h .content) (h .count)
-            ∙ append-assoc (header ms) (entries cs) (le 2 (length cs)) in
+    ap (take (o .at + 2)) (e ∙ ap (λ x. left x area (over area (o .at) (le 2 (o .count)))) accepted)
+    ∙ take-over area (o .at) (le 2 (o .count)) (omega arith)
+    ∙ ap₂ (λ (xs : List ℕ) (n : ℕ). xs ++ le 2 n) (h .content) (h .count)
+    ∙ append-assoc (header ms) (entries cs) (le 2 (length cs)) in
     record {
       accepted = accepted;
-      file = record { laid = file; chain = h .chain; formed = h .formed; sized = h .sized; few = h .few }
+      file = record { laid = file; chain = h .chain; formed = h .formed; sized = h .sized; few = h .few };
     }

@@ -37,9 +37,9 @@ scan-enough (suc k) zero i (b ∷ bs) h g = absurd (omega arith)
 scan-enough (suc k) (suc m) i (b ∷ bs) h g =
     by-cond (eqb (sizeOf (b ∷ bs)) 0) _ _ _
     (λ e.
-      let l = rest-shorter (b ∷ bs) (eqb-false (sizeOf (b ∷ bs)) 0 e) in
-      ap (andThen (commandOf (b ∷ bs)))
-      (scan-enough k m i (rest (b ∷ bs)) (omega arith) (omega arith)))
+    let l = rest-shorter (b ∷ bs) (eqb-false (sizeOf (b ∷ bs)) 0 e) in
+    ap (andThen (commandOf (b ∷ bs)))
+    (scan-enough k m i (rest (b ∷ bs)) (omega arith) (omega arith)))
 
 -- the first entry is whole
 pub scan-more : (i : ℕ) (bs : List ℕ) → (sizeOf bs ≡ 0 → ⊥)
@@ -50,7 +50,7 @@ scan-more i (b ∷ bs) some =
     let l = rest-shorter (b ∷ bs) some in
     cond-false (eqb (sizeOf (b ∷ bs)) 0) _ _ (ne-eqb (sizeOf (b ∷ bs)) 0 some)
     ∙ ap (andThen (commandOf (b ∷ bs)))
-        (scan-enough (length bs) (length (rest (b ∷ bs))) i (rest (b ∷ bs)) (omega arith) (omega arith))
+    (scan-enough (length bs) (length (rest (b ∷ bs))) i (rest (b ∷ bs)) (omega arith) (omega arith))
 
 -- the first entry is broken
 pub scan-stop : (i : ℕ) (bs : List ℕ) → 0 < length bs → sizeOf bs ≡ 0 → scanAll i bs ≡ found [] (Some (i - length bs))
@@ -72,7 +72,7 @@ pub counted-more : (e : ℕ) (bs after : List ℕ) → (sizeOf bs ≡ 0 → ⊥)
 counted-more e bs after some same =
     let more = scan-more e bs some in
     let c : 1 + length (scanAll e (rest bs) .commands) ≡ length (scanAll e bs .commands) =
-            omega (arith, ap (λ f. length (f .commands)) more) in
+    omega (arith, ap (λ f. length (f .commands)) more) in
     rw same (record { broken = ap (λ f. f .broken) (sym more); count = c; shorter = rest-shorter bs some })
 
 -- what was written of a list is found again
@@ -111,7 +111,7 @@ entries-step i bs false q b f next e =
     record {
       bytes = ap₂ (λ (xs ys : List ℕ). xs ++ ys) (r .bytes) (w .bytes) ∙ take-append-drop (sizeOf bs) bs;
       formed = (r .formed, w .formed);
-      sized = (r .sized, w .sized)
+      sized = (r .sized, w .sized);
     }
 
 entries-scan : (k i : ℕ) (bs : List ℕ) → length bs ≤ k → Bytes bs → scan k i bs .broken ≡ None → Whole bs (scan k i bs .commands)
@@ -122,8 +122,8 @@ entries-scan (suc k) i (x ∷ bs) h b e =
     let size = sizeOf (x ∷ bs) in
     entries-step i (x ∷ bs) (eqb size 0) refl b (scan k i (rest (x ∷ bs)))
     (λ some none.
-      let l = rest-shorter (x ∷ bs) some in
-      entries-scan k i (rest (x ∷ bs)) (omega arith) (all-drop (λ y. y < 256) size (x ∷ bs) b) none)
+    let l = rest-shorter (x ∷ bs) some in
+    entries-scan k i (rest (x ∷ bs)) (omega arith) (all-drop (λ y. y < 256) size (x ∷ bs) b) none)
     e
 
 pub whole : (i : ℕ) (bs : List ℕ) → Bytes bs → scanAll i bs .broken ≡ None → Whole bs (scanAll i bs .commands)

@@ -46,25 +46,26 @@ unfolding addsRefusal
 adds [] area o h l space = sym (cond-true _ None _ (le-leb (o .count + 0) most (omega arith)))
 adds (c ∷ cs) area o h l space =
     let short = entry-short (verbOf (c .verb)) c in
-    elim (cases-lt (o .count) most)
-    [ inl less ↦
-        let taken = add-taken area o c (length (entry c)) (h .0) less refl
-                (le-leb (o .at + length (entry c) + 2) (length area) (omega arith)) in
-        let kept = length-over area (o .at) (entry c) (omega arith) in
-        let sum : o .count + 1 + length cs ≡ o .count + suc (length cs) = omega arith in
-        at-none (o .count + 1) (addRefusal area o c) _ taken
-        ∙ adds cs (over area (o .at) (entry c)) (grown o c) (h .1) (omega arith) (omega arith)
-        ∙ ap (λ (n : ℕ). cond (leb n most) None (Some (refused (most + 1) Full))) sum
-    | inr full ↦
-        let last : o .count ≡ most = omega arith in
-        at-some (o .count + 1) (addRefusal area o c) _ Full (add-full area o c (h .0) full)
-        ∙ ap (λ (n : ℕ). Some (refused (n + 1) Full)) last
-        ∙ sym (cond-false _ None _ (lt-leb (o .count + suc (length cs)) most (omega arith))) ]
+    elim (cases-lt (o .count) most) [
+      | inl less ↦
+          let taken = add-taken area o c (length (entry c)) (h .0) less refl
+          (le-leb (o .at + length (entry c) + 2) (length area) (omega arith)) in
+          let kept = length-over area (o .at) (entry c) (omega arith) in
+          let sum : o .count + 1 + length cs ≡ o .count + suc (length cs) = omega arith in
+          at-none (o .count + 1) (addRefusal area o c) _ taken
+          ∙ adds cs (over area (o .at) (entry c)) (grown o c) (h .1) (omega arith) (omega arith)
+          ∙ ap (λ (n : ℕ). cond (leb n most) None (Some (refused (most + 1) Full))) sum
+      | inr full ↦
+          let last : o .count ≡ most = omega arith in
+          at-some (o .count + 1) (addRefusal area o c) _ Full (add-full area o c (h .0) full)
+          ∙ ap (λ (n : ℕ). Some (refused (n + 1) Full)) last
+          ∙ sym (cond-false _ None _ (lt-leb (o .count + suc (length cs)) most (omega arith)))
+    ]
 
 pub enough-space : Enough-space
 enough-space area ms cs space valid formed =
     let taken = begin-taken area ms (length (header ms)) valid refl
-            (le-leb (0 + length (header ms) + 2) (length area) (omega arith)) in
+    (le-leb (0 + length (header ms) + 2) (length area) (omega arith)) in
     let kept = length-over area 0 (header ms) (omega arith) in
     at-none 0 (beginRefusal area ms) _ taken
     ∙ adds cs (over area 0 (header ms)) (begun ms) formed (omega arith) (omega arith)

@@ -69,7 +69,7 @@ walked (suc m) (c ∷ cs) e h s l =
     let taken = length-append (entry c) (entries (take m cs)) in
     let left : rest bs ≡ entries cs = drop-at (entry c) (entries cs) (sizeOf bs) (sym size) in
     let offset : e - length (entries cs) + length (entries (take m cs)) ≡ e - length bs + length (entry c ++ entries (take m cs)) =
-            omega arith in
+    omega arith in
     let test : ltb m (length cs) ≡ ltb (suc m) (suc (length cs)) = sym (leb·suc-suc (suc m) (length cs)) in
     let make : Bool → ℕ → Option (ℕ × List ℕ) = λ b i. cond b (Some (i, entry (getD cs m (commandAs None [])))) None in
     cond-false (eqb (sizeOf bs) 0) None _ (ne-eqb (sizeOf bs) 0 (λ z. omega arith))
@@ -83,11 +83,11 @@ entry-of f ms cs (suc m) a =
     let end = length (header ms) + length (entries cs) in
     let before : suc m - 1 ≡ m = omega arith in
     let offset : end - length (entries cs) + length (entries (take m cs)) ≡ length (header ms) + length (entries (take m cs)) =
-            omega arith in
+    omega arith in
     let test : ltb m (length cs) ≡ (ltb 0 (suc m) && leb (suc m) (length cs)) =
-            ap (λ b. b && leb (suc m) (length cs)) (sym (lt-ltb 0 (suc m) (omega arith))) in
+    ap (λ b. b && leb (suc m) (length cs)) (sym (lt-ltb 0 (suc m) (omega arith))) in
     let make : Bool → ℕ → Option (ℕ × List ℕ) = λ b i. cond b (Some (i, entry (getD cs m (commandAs None [])))) None in
     let at : ℕ → Option (ℕ × List ℕ) = λ k. cond (ltb 0 (suc m) && leb (suc m) (length cs))
-            (Some (length (header ms) + length (entries (take k cs)), entry (getD cs k (commandAs None [])))) None in
+    (Some (length (header ms) + length (entries (take k cs)), entry (getD cs k (commandAs None [])))) None in
     ap₂ (entryAt (suc m)) (file-count f ms cs a) (file-body f ms cs a)
     ∙ walked m cs end (a .formed) (a .sized) (omega arith) ∙ ap₂ make test offset ∙ ap at (sym before)

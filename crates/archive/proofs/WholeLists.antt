@@ -38,13 +38,13 @@ pub begun-list : (area ms : List ℕ) (cs : List Command) (exit : List ℕ) (o :
 begun-list area ms cs exit o e w p =
     at-none 0 (beginRefusal area ms) (addsRefusal (over area 0 (header ms)) (begun ms) 1 cs) e
     ∙ ap₂ (λ (a : List ℕ) (b : OpenArchive). addsRefusal a b 1 cs)
-        (sym (left-none (beginRefusal area ms) area (over area 0 (header ms)) exit w e)) (sym p)
+    (sym (left-none (beginRefusal area ms) area (over area 0 (header ms)) exit w e)) (sym p)
 
 module _ (area : List ℕ) (o : OpenArchive) (n : ℕ) (cs : List Command) (i : ℕ) where
   module _ (d : Command) (l : i < length cs) where
     step : addsRefusal area o n (drop i cs)
         ≡ atEntry n (addRefusal area o (getD cs i d))
-            (addsRefusal (over area (o .at) (entry (getD cs i d))) (grown o (getD cs i d)) (n + 1) (drop (i + 1) cs))
+        (addsRefusal (over area (o .at) (entry (getD cs i d))) (grown o (getD cs i d)) (n + 1) (drop (i + 1) cs))
     unfolding addsRefusal
     step = at-drop-more (addsRefusal area o n) cs i d l
 

@@ -44,7 +44,7 @@ commandAs (Some Change) bs =
       origin = num (part 1 2 bs);
       serial = num (part 3 serialBytes bs);
       a = num (part (3 + serialBytes) 2 bs);
-      b = num (part (5 + serialBytes) 2 bs)
+      b = num (part (5 + serialBytes) 2 bs);
     }
 
 -- the command that these bytes begin with
@@ -129,8 +129,8 @@ abbrev pub fault : List ℕ → Option ℕ
 fault f =
     cond (ltb (length f) 8) (Some 0)
     (cond (hasMark f)
-      (cond (hasChain f) (orCount f (scanned f .commands) (scanned f .broken)) (Some 4))
-      (Some 0))
+    (cond (hasChain f) (orCount f (scanned f .commands) (scanned f .broken)) (Some 4))
+    (Some 0))
 
 -- entry n of these bytes, n from 1, as its offset and its bytes, if there is one; the bytes end at offset e
 abbrev pub entryAt : ℕ → ℕ → List ℕ → Option (ℕ × List ℕ)

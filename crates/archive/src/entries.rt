@@ -11,11 +11,11 @@ ghost use Rattle.std.specs.declared.option.Option.the-variants.{Some};
 ghost use mathlib.Core.Bool.{true};
 ghost use lib.ListN.{length};
 ghost use mathlib.Core.Path.{_≡_};
+use bytes::read_u16;
 use command::Command;
 use command::SERIAL_BYTES;
 use command::Verb;
 use command::read_serial;
-use bytes::read_u16;
 
 /// An entry: the part of the file that holds it, and the offset where it begins.
 #[derive(Clone, Copy)]
@@ -58,7 +58,10 @@ impl<'a> Entries<'a> {
             return None;
         }
         self.rest = &bytes[size..];
-        Some(Entry { offset: self.end.saturating_sub(bytes.len()), bytes: &bytes[0..size] })
+        Some(Entry {
+            offset: self.end.saturating_sub(bytes.len()),
+            bytes: &bytes[0..size],
+        })
     }
 }
 
@@ -69,13 +72,13 @@ impl Entries<'_> {
         ensures after { λ _. ⌜ now (now (self .exit) .rest) ≡ rest (now (now (self .entry) .rest)) ⌝ }
         ensures same { λ _. ⌜ now (self .exit) .end ≡ now (self .entry) .end ⌝ }
     {
-        let bytes = self.rest;
-        let size = size_of(bytes);
+        let front = self.rest;
+        let size = size_of(front);
         if size == 0 {
             return None;
         }
-        self.rest = &bytes[size..];
-        Some(command_of(bytes))
+        self.rest = &front[size..];
+        Some(command_of(front))
     }
 }
 
@@ -86,10 +89,34 @@ fn command_of(bytes: &[u8]) -> Command
 {
     let verb = bytes[0];
     match Verb::of(verb) {
-        None => Command { verb: 0, origin: 0, serial: 0, a: 0, b: 0 },
-        Some(Verb::Noop) => Command { verb: 0, origin: 0, serial: 0, a: 0, b: 0 },
-        Some(Verb::Add) => Command { verb: 1, origin: 0, serial: 0, a: bytes[1] as u16, b: 0 },
-        Some(Verb::Remove) => Command { verb: 2, origin: 0, serial: 0, a: bytes[1] as u16, b: 0 },
+        None => Command {
+            verb: 0,
+            origin: 0,
+            serial: 0,
+            a: 0,
+            b: 0,
+        },
+        Some(Verb::Noop) => Command {
+            verb: 0,
+            origin: 0,
+            serial: 0,
+            a: 0,
+            b: 0,
+        },
+        Some(Verb::Add) => Command {
+            verb: 1,
+            origin: 0,
+            serial: 0,
+            a: bytes[1] as u16,
+            b: 0,
+        },
+        Some(Verb::Remove) => Command {
+            verb: 2,
+            origin: 0,
+            serial: 0,
+            a: bytes[1] as u16,
+            b: 0,
+        },
         Some(Verb::Change) => change_of(bytes),
     }
 }

@@ -6,8 +6,6 @@ ghost use Rattle.std.specs.declared.option.Option.the-variants.{Some, None};
 ghost use lib.Dec.{ltb};
 ghost use mathlib.Core.Bool.{cond};
 ghost use mathlib.Core.Path.{_≡_};
-use command::Command;
-use command::SERIAL_BYTES;
 use crate::COUNT_BYTES;
 use crate::HEADER_BYTES;
 use crate::OpenArchive;
@@ -15,6 +13,8 @@ use crate::Refusal;
 use crate::SealedArchive;
 use crate::writing::RefusalDebug;
 use crate::writing::RefusalPartialEq;
+use command::Command;
+use command::SERIAL_BYTES;
 
 /// Why a list was not written: the entry that was refused, counted from 1, or 0 for the chain, and the refusal.
 #[derive(Clone, Copy, PartialEq, Eq, Debug)]
@@ -35,7 +35,11 @@ pub fn space_for(members: usize, commands: usize) -> Option<usize>
 
 /// Writes the archive of this chain and these commands at the front of the area: begin, an add for each, and seal.
 /// Where an entry is refused, the archive is struck.
-pub fn write_list(area: &mut [u8], members: &[u8], commands: &[Command]) -> Result<SealedArchive, ListRefusal>
+pub fn write_list(
+    area: &mut [u8],
+    members: &[u8],
+    commands: &[Command],
+) -> Result<SealedArchive, ListRefusal>
     ensures wrote { λ r. ⌜ Wrote (now (members .entry)) (now (commands .entry)) (now (area .entry)) (now (area .exit)) r ⌝ }
     ensures space { λ _. ⌜ Enough-space ⌝ }
 {
@@ -48,7 +52,10 @@ pub fn write_list(area: &mut [u8], members: &[u8], commands: &[Command]) -> Resu
             Ok(open) => open,
             Err((open, refusal)) => {
                 open.strike(area);
-                return Err(ListRefusal { entry: i + 1, refusal });
+                return Err(ListRefusal {
+                    entry: i + 1,
+                    refusal,
+                });
             }
         };
     }

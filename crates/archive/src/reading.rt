@@ -9,7 +9,6 @@ ghost use Rattle.std.specs.shelf.Text.{sameBytes};
 ghost use lib.ListN.{length};
 ghost use mathlib.Core.List.{List};
 ghost use mathlib.Core.Path.{_≡_};
-use bytes::read_u16;
 use crate::COUNT_BYTES;
 use crate::Entries;
 use crate::Entry;
@@ -17,6 +16,7 @@ use crate::HEADER_BYTES;
 use crate::MARK;
 use crate::entries::size_of;
 use crate::is_chain;
+use bytes::read_u16;
 
 // The length of the shortest file: mark, a chain of one member, no entries, and the count.
 const SHORTEST: usize = 8;
@@ -71,7 +71,12 @@ impl<'a> Reader<'a> {
         if read_u16(file, end) as usize != count {
             return Err(Broken { offset: end });
         }
-        Ok(Reader { members, body, end, count })
+        Ok(Reader {
+            members,
+            body,
+            end,
+            count,
+        })
     }
 
     /// The founding chain's members, a part of the file.
@@ -93,7 +98,10 @@ impl<'a> Reader<'a> {
         ensures rest { λ r. ⌜ now (r .rest) ≡ now (now (self .entry) .body) ⌝ }
         ensures end { λ r. ⌜ r .end ≡ now (self .entry) .end ⌝ }
     {
-        Entries { rest: self.body, end: self.end }
+        Entries {
+            rest: self.body,
+            end: self.end,
+        }
     }
 
     /// Entry n, counted from 1, as its offset and its bytes, a part of the file, if there is one.
@@ -129,7 +137,9 @@ fn count_entries(body: &[u8], end: usize) -> Result<usize, Broken>
     while !rest.is_empty() {
         let size = size_of(rest);
         if size == 0 {
-            return Err(Broken { offset: end.saturating_sub(rest.len()) });
+            return Err(Broken {
+                offset: end.saturating_sub(rest.len()),
+            });
         }
         rest = &rest[size..];
         count += 1;

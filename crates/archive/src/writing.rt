@@ -15,18 +15,18 @@ ghost use lib.ListN.{length, replicate};
 ghost use mathlib.Core.Bool.{true};
 ghost use mathlib.Core.List.{List, [], _∷_, _++_};
 ghost use mathlib.Core.Path.{_≡_};
-use bytes::write_bytes;
-use bytes::write_u16;
-use bytes::write_u8;
-use command::Serial;
-use command::Command;
-use command::SERIAL_BYTES;
-use command::Verb;
-use command::write_serial;
 use crate::COUNT_BYTES;
 use crate::HEADER_BYTES;
 use crate::MARK;
 use crate::is_chain;
+use bytes::write_bytes;
+use bytes::write_u8;
+use bytes::write_u16;
+use command::Command;
+use command::SERIAL_BYTES;
+use command::Serial;
+use command::Verb;
+use command::write_serial;
 
 /// An archive that is being written: where its next part goes, and how many entries it has. It tells no length,
 /// and it cannot be let go: seal or strike ends it.
@@ -83,7 +83,11 @@ impl OpenArchive {
     }
 
     /// Appends an entry. Refusals 5 (ill formed), 16 (65,535 entries) and 14 (no space); the archive is handed back then.
-    pub fn add(self, area: &mut [u8], command: &Command) -> Result<OpenArchive, (OpenArchive, Refusal)>
+    pub fn add(
+        self,
+        area: &mut [u8],
+        command: &Command,
+    ) -> Result<OpenArchive, (OpenArchive, Refusal)>
         ensures answer { λ r. ⌜ r ≡ answer (λ e. (self, e)) (addRefusal (now (area .entry)) self (now (command .entry))) (grown self (now (command .entry))) ⌝ }
         ensures writes { λ _. ⌜ now (area .exit) ≡ left (addRefusal (now (area .entry)) self (now (command .entry))) (now (area .entry)) (over (now (area .entry)) (self .at) (entry (now (command .entry)))) ⌝ }
         ensures run { λ r. ⌜ ((ms : List ℕ) (cs : List Command) → Run (now (area .entry)) self ms cs → made r (λ o. Run (now (area .exit)) o ms (cs ++ (now (command .entry) ∷ [])))) ⌝ }
@@ -98,10 +102,19 @@ impl OpenArchive {
         if !has_room(area, self.at, size) {
             return Err((self, Refusal::NoSpace));
         }
-        know_widths(command.verb, command.origin, command.serial, command.a, command.b);
+        know_widths(
+            command.verb,
+            command.origin,
+            command.serial,
+            command.a,
+            command.b,
+        );
         let OpenArchive { at, count } = self;
         write_entry(area, at, command);
-        Ok(OpenArchive { at: at + size, count: count + 1 })
+        Ok(OpenArchive {
+            at: at + size,
+            count: count + 1,
+        })
     }
 
     /// Writes the count, which finishes the file. Refusal 14 (no space); the archive is handed back then.
@@ -115,7 +128,9 @@ impl OpenArchive {
         }
         let OpenArchive { at, count } = self;
         write_u16(area, at, count);
-        Ok(SealedArchive { length: at + COUNT_BYTES })
+        Ok(SealedArchive {
+            length: at + COUNT_BYTES,
+        })
     }
 
     /// Sets the whole area to 00 and ends the archive.
@@ -148,8 +163,7 @@ fn has_room(area: &[u8], at: usize, size: usize) -> bool
 // Does nothing: a number of a type lies within its width, which the proof of `add` needs of a command's fields.
 fn know_widths(verb: u8, origin: u16, serial: Serial, a: u16, b: u16)
     ensures { λ _. ⌜ Sized (record { verb = verb; origin = origin; serial = serial; a = a; b = b }) ⌝ }
-{
-}
+{}
 
 // Writes mark, length and members.
 fn write_header(area: &mut [u8], members: &[u8])

@@ -66,7 +66,7 @@ part-four i bs h =
     let f : i + 2 + 1 ≡ i + 3 = omega arith in
     part-more i 3 bs (omega arith)
     ∙ ap (λ (xs : List ℕ). getD bs i 0 ∷ xs)
-        (part-more (i + 1) 2 bs (omega arith)
-         ∙ ap (λ (xs : List ℕ). getD bs (i + 1) 0 ∷ xs)
-            (ap (λ (j : ℕ). part j 2 bs) e ∙ part-two (i + 2) bs (omega arith)
-             ∙ ap (λ (j : ℕ). getD bs (i + 2) 0 ∷ getD bs j 0 ∷ []) f))
+    (part-more (i + 1) 2 bs (omega arith)
+    ∙ ap (λ (xs : List ℕ). getD bs (i + 1) 0 ∷ xs)
+    (ap (λ (j : ℕ). part j 2 bs) e ∙ part-two (i + 2) bs (omega arith)
+    ∙ ap (λ (j : ℕ). getD bs (i + 2) 0 ∷ getD bs j 0 ∷ []) f))

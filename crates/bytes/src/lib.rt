@@ -30,7 +30,8 @@ pub fn write_u16(area: &mut [u8], at: usize, n: u16)
     requires { ⌜ at + 2 ≤ length (now area) ⌝ }
     ensures { λ _. ⌜ now (area .exit) ≡ over (now (area .entry)) at (le 2 n) ⌝ }
 {
-    write_bytes(area, at, &n.to_le_bytes());
+    let two = n.to_le_bytes();
+    write_bytes(area, at, &two);
 }
 
 /// Writes a number as four bytes. Building block: they must lie within the area.
@@ -38,7 +39,8 @@ pub fn write_u32(area: &mut [u8], at: usize, n: u32)
     requires { ⌜ at + 4 ≤ length (now area) ⌝ }
     ensures { λ _. ⌜ now (area .exit) ≡ over (now (area .entry)) at (le 4 n) ⌝ }
 {
-    write_bytes(area, at, &n.to_le_bytes());
+    let four = n.to_le_bytes();
+    write_bytes(area, at, &four);
 }
 
 /// The number in the two bytes from offset `at` on. Building block: they must lie within the area.

@@ -31,7 +31,6 @@ pub fn run(rt: &LibcRuntime) -> Result<(), AnyError> {
     jobs::print_sealed(rt, &year)?;
     fs::write(rt, FILE, year.file.as_slice())?;
     let mut file = fs::read(rt, FILE)?;
-    fs::remove_file(rt, FILE)?;
     if file.as_slice() != year.file.as_slice() {
         return jobs::fail(rt, "year: the file is not what was written");
     }

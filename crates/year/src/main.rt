@@ -8,7 +8,8 @@ mod words;
 use std::env;
 use std::error::AnyError;
 
-const USAGE: &str = "year: usage: year | year seal LIST FILE | year read FILE | year show FILE [ledger]";
+const USAGE: &str =
+    "year: usage: year | year seal LIST FILE | year read FILE | year show FILE [ledger]";
 
 fn main(rt: LibcRuntime) -> Result<(), AnyError> {
     let mut given = env::args(&rt)?;

@@ -26,11 +26,19 @@ pub enum Table {
 }
 
 /// The header, the entries, the chain after all of them, and the table that the list leads to.
-pub fn text(heap: Global, reader: &Reader, length: usize, table: Table) -> Result<String, AnyError> {
+pub fn text(
+    heap: Global,
+    reader: &Reader,
+    length: usize,
+    table: Table,
+) -> Result<String, AnyError> {
     let mut text = String::new(heap);
     let count = reader.count();
     let founding = numbers(heap, reader.members())?;
-    writeln!(text, "archive of {count} entries, {length} bytes, founding chain{founding}")?;
+    writeln!(
+        text,
+        "archive of {count} entries, {length} bytes, founding chain{founding}"
+    )?;
     match table {
         Table::Weights => {
             let mut stack = new_stack();
@@ -81,16 +89,30 @@ fn replay<M: Machine>(machine: &mut M, command: &Command) {
 }
 
 // The line of one entry, numbered from 1.
-fn write_line(text: &mut String, before: usize, entry: &Entry, command: &Command) -> Result<(), AnyError> {
+fn write_line(
+    text: &mut String,
+    before: usize,
+    entry: &Entry,
+    command: &Command,
+) -> Result<(), AnyError> {
     let number = before.saturating_add(1);
     let offset = entry.offset;
-    let (verb, origin, serial, a, b) = (command.verb, command.origin, command.serial, command.a, command.b);
+    let (verb, origin, serial, a, b) = (
+        command.verb,
+        command.origin,
+        command.serial,
+        command.a,
+        command.b,
+    );
     write!(text, "{number:>6}  at {offset:<7} ")?;
     match Verb::of(verb) {
         Some(Verb::Noop) => writeln!(text, "no-op")?,
         Some(Verb::Add) => writeln!(text, "add director {a}")?,
         Some(Verb::Remove) => writeln!(text, "remove director {a}")?,
-        Some(Verb::Change) => writeln!(text, "change by verb {verb}, origin {origin}, serial {serial}, a {a}, b {b}")?,
+        Some(Verb::Change) => writeln!(
+            text,
+            "change by verb {verb}, origin {origin}, serial {serial}, a {a}, b {b}"
+        )?,
         None => writeln!(text, "unknown verb {verb}")?,
     }
     Ok(())

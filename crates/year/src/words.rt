@@ -13,7 +13,10 @@ pub fn of_seal_fault(heap: Global, fault: SealFault) -> Result<String, AllocErro
         SealFault::Entry(refused) => {
             let number = refused.refusal.number();
             let line = refused.entry.saturating_add(1);
-            format!(heap, "year: refused {number} at line {line}: an archive holds at most 65,535 entries")
+            format!(
+                heap,
+                "year: refused {number} at line {line}: an archive holds at most 65,535 entries"
+            )
         }
         SealFault::Memory => String::from_str(heap, "year: no memory is left"),
     }
@@ -23,16 +26,28 @@ pub fn of_seal_fault(heap: Global, fault: SealFault) -> Result<String, AllocErro
 pub fn of_list_fault(heap: Global, fault: Fault) -> Result<String, AllocError> {
     match fault {
         Fault::InvalidChain => {
-            String::from_str(heap, "year: refused 11 at line 1: a chain is 1 to 7 different directors from 0 to 31")
+            String::from_str(
+                heap,
+                "year: refused 11 at line 1: a chain is 1 to 7 different directors from 0 to 31",
+            )
         }
         Fault::IllFormed { line } => {
-            format!(heap, "year: refused 5 at line {line}: the command is not well formed")
+            format!(
+                heap,
+                "year: refused 5 at line {line}: the command is not well formed"
+            )
         }
         Fault::Unreadable { line: 1 } => {
-            String::from_str(heap, "year: line 1 cannot be read: the first line is chain D D ..")
+            String::from_str(
+                heap,
+                "year: line 1 cannot be read: the first line is chain D D ..",
+            )
         }
         Fault::Unreadable { line } => {
-            format!(heap, "year: line {line} cannot be read: a line is noop, add D, remove D or change VERB ORIGIN SERIAL A B")
+            format!(
+                heap,
+                "year: line {line} cannot be read: a line is noop, add D, remove D or change VERB ORIGIN SERIAL A B"
+            )
         }
         Fault::Memory => String::from_str(heap, "year: no memory is left"),
     }

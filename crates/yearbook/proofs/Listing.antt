@@ -87,9 +87,10 @@ read-sound text l e = lines-sound (lines text) l e
 listables : (cs : List Command) → All (λ c. wellFormed c ≡ true) cs → All Sized cs → All Listable cs
 listables [] w s = tt
 listables (c ∷ cs) w s =
-    let z = s .0 in
-    (record { well = w .0; verb = omega arith; origin = omega arith; serial = omega arith; a = omega arith; b = omega arith },
-     listables cs (w .1) (s .1))
+    let z = s .0 in (
+      record { well = w .0; verb = omega arith; origin = omega arith; serial = omega arith; a = omega arith; b = omega arith },
+      listables cs (w .1) (s .1),
+    )
 
 -- the text of a whole file tells a list whose archive is the file
 pub told : (f text : List ℕ) → Exact f → fault f ≡ None → text ≡ textOf (membersOf f) (scanned f .commands) → Told f text
@@ -100,7 +101,7 @@ told f text x whole e =
       text-is = e;
       list = record { chain = founded (membersOf f); commands = scanned f .commands };
       read = ap readText e ∙ text-back (membersOf f) (scanned f .commands) (a .chain) (listables (scanned f .commands) (a .formed) (a .sized));
-      again = sym (a .laid)
+      again = sym (a .laid);
     }
 
 -- why commands made no file is why their list was not sealed

@@ -35,7 +35,11 @@ pub fn seal_text(heap: Global, text: &[u8]) -> Result<SealedYear, SealFault>
     let list = read_list(heap, text)?;
     let file = file_of(heap, list.chain.members(), list.commands.as_slice())?;
     let chain = list.chain.after_all(list.commands.as_slice());
-    Ok(SealedYear { file, entries: list.commands.len(), chain })
+    Ok(SealedYear {
+        file,
+        entries: list.commands.len(),
+        chain,
+    })
 }
 
 // The archive file of a founding chain and commands.

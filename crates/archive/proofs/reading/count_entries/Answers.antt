@@ -23,7 +23,7 @@ loop-rest-again c =
     let n = c .size-of-size .result in
     let after = take-rest bs n ∙ ap (λ (k : ℕ). drop k bs) (c .size-of-size .ensures) in
     let more = counted-more (c .args .end) bs (take (length bs - n) (drop n bs))
-            (λ z. c .if-size-eq0 .left (c .size-of-size .ensures ∙ z)) after in
+    (λ z. c .if-size-eq0 .left (c .size-of-size .ensures ∙ z)) after in
     let left = c .loop-rest .inv .0 in
     let count = c .loop-rest .inv .2 in
     (omega arith, more .broken ∙ c .loop-rest .inv .1, omega arith)

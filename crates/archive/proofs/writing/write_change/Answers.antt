@@ -18,11 +18,11 @@ returns c =
     let three = two ++ le serialBytes (d .serial) in
     let four = three ++ le 2 (d .a) in
     let p = then-over area _ (c .write-u16 .last .area) i _ one (le 2 (d .origin)) (omega arith) (c .write-u8 .ensures)
-            (omega arith) (c .write-u16 .ensures) in
+    (omega arith) (c .write-u16 .ensures) in
     let q = then-over area _ (c .write-serial .last .area) i _ two (le serialBytes (d .serial)) (omega arith) p
-            (omega arith) (c .write-serial .ensures) in
+    (omega arith) (c .write-serial .ensures) in
     let r = then-over area _ (c .write-u16-2 .last .area) i _ three (le 2 (d .a)) (omega arith) q
-            (omega arith) (c .write-u16-2 .ensures) in
+    (omega arith) (c .write-u16-2 .ensures) in
     then-over area _ (c .write-u16-3 .last .area) i _ four (le 2 (d .b)) (omega arith) r
     (omega arith) (c .write-u16-3 .ensures)
     ∙ ap (λ v. over area i (entryAs v d)) (sym (c .pre .kind))

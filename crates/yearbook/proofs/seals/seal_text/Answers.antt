@@ -30,7 +30,7 @@ returns c =
           (c .in-Continue-file .ensures tt);
       entries = c .len .ensures ∙ c .in-Continue-list .list .commands .ok .0;
       chain = c .after-all-chain .ensures
-          ∙ ap (afterAll (membership (c .in-Continue-list .list .chain))) (c .as-slice-2 .ensures .value)
+          ∙ ap (afterAll (membership (c .in-Continue-list .list .chain))) (c .as-slice-2 .ensures .value);
     }
 
 pub returns-in-Break-list : need.returns-in-Break-list
@@ -42,6 +42,6 @@ pub returns-in-Break-file : need.returns-in-Break-file
 returns-in-Break-file c =
     let p = err-from-errBy (c .from-residual-in-Break-file .result) (c .from-residual-in-Break-file .ensures .1) in
     let h : Unfiled (vec-items (c .in-Continue-list .list .commands)) (c .in-Break-file .field-0 .0) =
-            rw (c .as-slice .ensures .value) at (c .in-Break-file .ensures tt) in
+    rw (c .as-slice .ensures .value) at (c .in-Break-file .ensures tt) in
     rw (p .1, p .2)
     (unsealed (c .args .text .now) (listOf (c .in-Continue-list .list)) (sym (c .in-Continue-list .ensures tt .answer)) _ h)

@@ -21,5 +21,5 @@ returns c =
       answer = ap₂ make (c .saturating-sub .ensures) zero-off
           ∙ sym (cond-false (eqb (sizeOf bs) 0) None _ (ne-eqb (sizeOf bs) 0 (λ z. c .if-size-eq0 .left (size ∙ z))));
       after = take-rest bs (c .size-of-size .result) ∙ ap (λ (n : ℕ). drop n bs) size;
-      same = refl
+      same = refl;
     }

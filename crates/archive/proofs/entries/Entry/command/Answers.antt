@@ -19,8 +19,8 @@ returns c =
     record {
       answer = ap Some (c .command-of .ensures)
           ∙ sym (cond-true _ (Some (commandOf bs)) None
-              (and-from (ltb 0 (length bs)) (eqb (sizeOf bs) (length bs)) (lt-ltb 0 (length bs) (omega arith))
-                (eq-eqb (sizeOf bs) (length bs) (sym (c .size-of .ensures) ∙ c .if-size-of-bytes .left))));
+          (and-from (ltb 0 (length bs)) (eqb (sizeOf bs) (length bs)) (lt-ltb 0 (length bs) (omega arith))
+          (eq-eqb (sizeOf bs) (length bs) (sym (c .size-of .ensures) ∙ c .if-size-of-bytes .left))));
       back = λ d w s e.
-          ap Some (c .command-of .ensures ∙ ap commandOf (e ∙ sym (append-nil (entry d))) ∙ reread d [] w s .same)
+          ap Some (c .command-of .ensures ∙ ap commandOf (e ∙ sym (append-nil (entry d))) ∙ reread d [] w s .same);
     }

@@ -23,10 +23,10 @@ returns-in-Break-next c =
     let me = c .args .self .now in
     let bs = now (c .loop-i .entries .rest) in
     let none : entryAt 1 (me .end) bs ≡ None =
-            ap (λ (e : ℕ). entryAt 1 e bs) (sym (c .loop-i .inv .0)) ∙ sym (c .in-Break-next .ensures tt .answer) in
+    ap (λ (e : ℕ). entryAt 1 e bs) (sym (c .loop-i .inv .0)) ∙ sym (c .in-Break-next .ensures tt .answer) in
     let answer : shown (c .from-residual .result) ≡ entryAt (c .args .n) (me .end) (now (me .body)) =
-            ap shown (c .from-residual .ensures)
-            ∙ sym (entry-none (me .end) bs (c .args .n + 1 - c .loop-i .-i) none) ∙ c .loop-i .inv .1 in
+    ap shown (c .from-residual .ensures)
+    ∙ sym (entry-none (me .end) bs (c .args .n + 1 - c .loop-i .-i) none) ∙ c .loop-i .inv .1 in
     record { answer = answer; meaning = meaning me (c .args .n) _ answer }
 
 pub loop-i-again : need.loop-i-again
@@ -37,11 +37,12 @@ loop-i-again c =
     let bs = now (c .loop-i .entries .rest) in
     let some = c .in-Continue-next .ensures tt .answer ∙ ap (λ (e : ℕ). entryAt 1 e bs) (c .loop-i .inv .0) in
     let before : n + 1 - i ≡ suc (suc (n - 1 - i)) = omega arith in
-    let after : n + 1 - (i + 1) ≡ suc (n - 1 - i) = omega arith in
-    (c .next .ensures .same ∙ c .loop-i .inv .0,
-     ap₂ (λ (k : ℕ) (xs : List ℕ). entryAt k (me .end) xs) after (c .next .ensures .after)
-     ∙ sym (entry-more (me .end) bs (n - 1 - i) _ some)
-     ∙ ap (λ (k : ℕ). entryAt k (me .end) bs) (sym before) ∙ c .loop-i .inv .1)
+    let after : n + 1 - (i + 1) ≡ suc (n - 1 - i) = omega arith in (
+      c .next .ensures .same ∙ c .loop-i .inv .0,
+      ap₂ (λ (k : ℕ) (xs : List ℕ). entryAt k (me .end) xs) after (c .next .ensures .after)
+          ∙ sym (entry-more (me .end) bs (n - 1 - i) _ some)
+          ∙ ap (λ (k : ℕ). entryAt k (me .end) bs) (sym before) ∙ c .loop-i .inv .1,
+    )
 
 pub returns : need.returns
 returns c =
@@ -49,6 +50,6 @@ returns c =
     let bs = now (c .loop-i .entries .rest) in
     let last : 1 ≡ c .args .n + 1 - c .loop-i .-i = omega arith in
     let answer : shown (c .next-2 .result) ≡ entryAt (c .args .n) (me .end) (now (me .body)) =
-            c .next-2 .ensures .answer ∙ ap (λ (e : ℕ). entryAt 1 e bs) (c .loop-i .inv .0)
-            ∙ ap (λ (k : ℕ). entryAt k (me .end) bs) last ∙ c .loop-i .inv .1 in
+    c .next-2 .ensures .answer ∙ ap (λ (e : ℕ). entryAt 1 e bs) (c .loop-i .inv .0)
+    ∙ ap (λ (k : ℕ). entryAt k (me .end) bs) last ∙ c .loop-i .inv .1 in
     record { answer = answer; meaning = meaning me (c .args .n) _ answer }

@@ -16,7 +16,7 @@ returns-then-not-has-mark c =
     let f = c .args .file .now in
     record {
       opens = fault-mark f (c .if-file-lt-SHORTEST .left) (sym (c .if-not-has-mark .ensures tt));
-      exact = exact f (file-bytes f (c .typed .file))
+      exact = exact f (file-bytes f (c .typed .file));
     }
 
 pub returns-then-start-end : need.returns-then-start-end
@@ -24,7 +24,7 @@ returns-then-start-end c =
     let f = c .args .file .now in
     record {
       opens = fault-far f (c .if-file-lt-SHORTEST .left) (sym (c .if-not-has-mark .ensures tt)) (c .if-start-end .taken);
-      exact = exact f (file-bytes f (c .typed .file))
+      exact = exact f (file-bytes f (c .typed .file));
     }
 
 pub returns-then-not-is-chain : need.returns-then-not-is-chain
@@ -33,7 +33,7 @@ returns-then-not-is-chain c =
     record {
       opens = fault-invalid f (c .if-file-lt-SHORTEST .left) (sym (c .if-not-has-mark .ensures tt)) (c .if-start-end .left)
           (c .is-chain .result) (c .is-chain .ensures) (c .if-not-is-chain .taken);
-      exact = exact f (file-bytes f (c .typed .file))
+      exact = exact f (file-bytes f (c .typed .file));
     }
 
 pub returns-in-Break-count : need.returns-in-Break-count
@@ -45,7 +45,7 @@ returns-in-Break-count c =
       opens = fault-entry f (c .if-file-lt-SHORTEST .left) (sym (c .if-not-has-mark .ensures tt)) (c .if-start-end .left)
           (c .is-chain .result) (c .is-chain .ensures) (c .if-not-is-chain .left) _ (c .in-Break-count .ensures tt)
           ∙ ap (λ x. Some (x .offset)) (sym (p .2));
-      exact = exact f (file-bytes f (c .typed .file))
+      exact = exact f (file-bytes f (c .typed .file));
     })
 
 pub returns-then-read-u16-count : need.returns-then-read-u16-count
@@ -55,19 +55,19 @@ returns-then-read-u16-count c =
       opens = fault-count f (c .if-file-lt-SHORTEST .left) (sym (c .if-not-has-mark .ensures tt)) (c .if-start-end .left)
           (c .is-chain .result) (c .is-chain .ensures) (c .if-not-is-chain .left) (c .in-Continue-count .count) (c .in-Continue-count .ensures tt)
           (c .read-u16 .result) (c .read-u16 .ensures) (c .if-read-u16-count .taken);
-      exact = exact f (file-bytes f (c .typed .file))
+      exact = exact f (file-bytes f (c .typed .file));
     }
 
 pub returns : need.returns
 returns c =
     let f = c .args .file .now in
     let whole = fault-none f (c .if-file-lt-SHORTEST .left) (sym (c .if-not-has-mark .ensures tt)) (c .if-start-end .left)
-            (c .is-chain .result) (c .is-chain .ensures) (c .if-not-is-chain .left) (c .in-Continue-count .count) (c .in-Continue-count .ensures tt)
-            (c .read-u16 .result) (c .read-u16 .ensures) (c .if-read-u16-count .left) in
+    (c .is-chain .result) (c .is-chain .ensures) (c .if-not-is-chain .left) (c .in-Continue-count .count) (c .in-Continue-count .ensures tt)
+    (c .read-u16 .result) (c .read-u16 .ensures) (c .if-read-u16-count .left) in
     let count = count-is f (c .if-file-lt-SHORTEST .left) (sym (c .if-not-has-mark .ensures tt)) (c .if-start-end .left)
-            (c .is-chain .result) (c .is-chain .ensures) (c .if-not-is-chain .left) (c .in-Continue-count .count)
-            (c .in-Continue-count .ensures tt) (c .read-u16 .result) (c .read-u16 .ensures) in
+    (c .is-chain .result) (c .is-chain .ensures) (c .if-not-is-chain .left) (c .in-Continue-count .count)
+    (c .in-Continue-count .ensures tt) (c .read-u16 .result) (c .read-u16 .ensures) in
     record {
       opens = (whole, record { members = members-cut f; body = body-cut f; end = refl; count = count });
-      exact = exact f (file-bytes f (c .typed .file))
+      exact = exact f (file-bytes f (c .typed .file));
     }

@@ -18,13 +18,13 @@ returns c =
     let size = c .entry-size-size .ensures .size in
     let l : o .count < 65535 = omega arith in
     let taken : addRefusal area o d ≡ None =
-            add-taken area o d (c .entry-size-size .result) (sym (c .if-not-is-well-formed .ensures tt)) l size
-            (sym (c .if-not-has-room .ensures tt)) in
+    add-taken area o d (c .entry-size-size .result) (sym (c .if-not-is-well-formed .ensures tt)) l size
+    (sym (c .if-not-has-room .ensures tt)) in
     let now : record { at = o .at + c .entry-size-size .result; count = o .count + 1 } ≡ grown o d =
-            ap (λ (n : ℕ). record { at = o .at + n; count = o .count + 1 }) size in
+    ap (λ (n : ℕ). record { at = o .at + n; count = o .count + 1 }) size in
     let back : Refusal → OpenArchive × Refusal = λ e. (o, e) in
     record {
       answer = ap (answer back None) now ∙ ap (λ x. answer back x (grown o d)) (sym taken);
       writes = c .write-entry .ensures ∙ ap (λ x. left x area (over area (o .at) (entry d))) (sym taken);
-      run = λ ms cs r. added area o cs d r (c .know-widths .ensures) taken (c .write-entry .ensures) now refl
+      run = λ ms cs r. added area o cs d r (c .know-widths .ensures) taken (c .write-entry .ensures) now refl;
     }

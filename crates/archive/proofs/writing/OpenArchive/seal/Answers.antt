@@ -17,7 +17,7 @@ returns-then-not-has-room c =
     record {
       answer = ap (λ x. answer (λ e. (o, e)) x (sealed o)) (sym refused);
       writes = written;
-      run = λ ms cs r. sealing area area o ms cs written r
+      run = λ ms cs r. sealing area area o ms cs written r;
     }
 
 pub returns : need.returns
@@ -29,5 +29,5 @@ returns c =
     record {
       answer = ap (λ x. answer (λ e. (o, e)) x (sealed o)) (sym taken);
       writes = written;
-      run = λ ms cs r. sealing area (c .write-u16 .last .area) o ms cs written r
+      run = λ ms cs r. sealing area (c .write-u16 .last .area) o ms cs written r;
     }
