@@ -1,9 +1,9 @@
 -- Reading digits one after another gives the number that a word writes.
-use mathlib.Core.Path.{_≡_, refl, sym, ap, _∙_}
-use mathlib.Core.Bool.{Bool, true, false, cond, not, _&&_}
+use mathlib.Core.Path.{_≡_, refl, sym, _∙_}
+use mathlib.Core.Bool.{Bool, true, false, cond, _&&_}
 use mathlib.Core.List.{List, [], _∷_}
-use mathlib.Core.Logic.{inl, inr, ⊎-elim}
-use Prim.Native.Nat.{ℕ, suc, _+_, _-_, _*_, _≤_, _<_}
+use mathlib.Core.Logic.{⊎-elim}
+use Prim.Native.Nat.{ℕ, _+_, _-_, _*_, _≤_, _<_}
 use native.Mathlib.Omega.{arith}
 use lib.Dec.{eqb, leb}
 use lib.ListN.{length, getD, drop}
@@ -11,10 +11,10 @@ use Rattle.std.specs.declared.option.Option.{Option}
 use Rattle.std.specs.declared.option.Option.the-variants.{Some, None}
 use Rattle.std.specs.shelf.Text.{allDigits}
 use Rattle.std.specs.Text.{asciiDigit}
-use Rattle.std.proofs.shelf.Tests.{cases-bool, cond-true, cond-false, lt-leb, le-leb, leb-true, leb-false, eqb-true, eq-eqb, ne-eqb}
-use Rattle.std.proofs.shelf.Tests.{false≢true}
+use Rattle.std.proofs.shelf.Tests.{cases-bool, cond-true, cond-false, false≢true}
+use Rattle.std.proofs.shelf.Tests.{lt-leb, le-leb, leb-true, leb-false, eqb-true, eq-eqb, ne-eqb}
 use Rattle.std.proofs.shelf.Lists.{at-drop-more, at-drop-all, nil-from-length}
-use Rattle.listing.specs.Numbers.{readOn, plain, numeral}
+use Rattle.listing.specs.Numbers.{readOn, numeral}
 
 -- the digits from here on, after the number n; it stops at the first byte that is no digit or makes it too large
 abbrev pub valueFrom : ℕ → ℕ → List ℕ → Option ℕ

@@ -1,30 +1,26 @@
 -- A list that was written is read back.
 use mathlib.Core.Path.{_≡_, refl, sym, ap, _∙_}
-use mathlib.Core.Bool.{Bool, true, false, cond, not, _&&_}
+use mathlib.Core.Bool.{true, false, not, _&&_}
 use mathlib.Core.List.{List, [], _∷_, _++_, map, append-assoc}
-use mathlib.Core.Logic.{inl, inr, ⊎-elim}
-use Prim.Native.Nat.{ℕ, suc, _+_, _≤_, _<_, _^_}
+use mathlib.Core.Logic.{⊎-elim}
+use Prim.Native.Nat.{ℕ, _+_, _≤_}
 use native.Mathlib.Omega.{arith}
 use lib.Chars.{codes}
 use lib.Dec.{eqb, leb}
 use lib.ListN.{length}
-use Rattle.std.specs.declared.option.Option.{Option}
-use Rattle.std.specs.declared.option.Option.the-variants.{Some, None}
-use Rattle.std.specs.declared.result.Result.{Result}
-use Rattle.std.specs.declared.result.Result.the-variants.{Ok, Err}
+use Rattle.std.specs.declared.option.Option.the-variants.{Some}
+use Rattle.std.specs.declared.result.Result.the-variants.{Ok}
 use Rattle.std.specs.shelf.Lists.{All}
-use Rattle.std.proofs.shelf.Tests.{and-parts, cases-bool, cond-true, cond-false, eqb-true, leb-true, false≢true}
+use Rattle.std.proofs.shelf.Tests.{and-parts, cases-bool, cond-true, cond-false, eqb-true, leb-true}
 use Rattle.command.specs.declared.Command.{Command}
-use Rattle.command.specs.declared.Verb.the-variants.{Noop, Add, Remove, Change}
+use Rattle.command.specs.declared.Verb.the-variants.{Noop, Add, Remove}
 use Rattle.command.specs.Commands.{wellFormed, untold, fits}
 use Rattle.command.specs.Members.{validChain, founded, differentDirectors, isMember}
-use Rattle.listing.specs.declared.faults.Fault.{Fault}
-use Rattle.listing.specs.declared.faults.Fault.the-variants.{InvalidChain, IllFormed, Unreadable, Memory}
-use Rattle.listing.specs.Pieces.{lines, words}
-use Rattle.listing.specs.Numbers.{decimalOf, numeral}
-use Rattle.listing.specs.Reading.{max8, max16, maxSerial, then, command, ended, memberOf, changeOf, entryOf, readEntry}
-use Rattle.listing.specs.Reading.{directors, someDirectors, chainOf, readChain, judged, before, entriesFrom, listed, chained}
-use Rattle.listing.specs.Reading.{Listed, readLines, readText}
+use Rattle.listing.specs.Pieces.{lines}
+use Rattle.listing.specs.Numbers.{decimalOf}
+use Rattle.listing.specs.Reading.{max8, max16, maxSerial, then, command, ended, memberOf, entryOf, readEntry}
+use Rattle.listing.specs.Reading.{directors, someDirectors, chainOf, readChain, judged, before, entriesFrom}
+use Rattle.listing.specs.Reading.{listed, chained, readLines, readText}
 use Rattle.listing.specs.Writing.{spaced, chainLine, lineOf, ending, entriesText, textOf}
 use Rattle.listing.specs.Law.{Listable}
 use Rattle.listing.proofs.Back.{lacks, lacks-append, lines-first, numeral-back, Small, words-back, spaced-lacks}

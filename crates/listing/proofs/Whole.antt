@@ -2,10 +2,10 @@
 use mathlib.Core.Path.{_≡_, refl, sym, ap, _∙_}
 use mathlib.Core.Bool.{Bool, true, false, cond, not, _&&_}
 use mathlib.Core.List.{List, [], _∷_, _++_, map, append-assoc}
-use mathlib.Core.Logic.{inl, inr, ⊎-elim}
-use Prim.Native.Nat.{ℕ, suc, _+_, _≤_, _<_}
+use mathlib.Core.Logic.{⊎-elim}
+use Prim.Native.Nat.{ℕ, _+_, _<_}
 use native.Mathlib.Omega.{arith}
-use lib.Dec.{eqb, leb}
+use lib.Dec.{leb}
 use lib.ListN.{length}
 use Rattle.std.specs.declared.option.Option.{Option}
 use Rattle.std.specs.declared.option.Option.the-variants.{Some, None}
@@ -21,7 +21,7 @@ use Rattle.listing.specs.Answers.{isMemory, directorByte, membersTold, chainTo
 use Rattle.std.proofs.shelf.Tests.{cond-true, cond-false, cases-bool, false≢true}
 use Rattle.std.proofs.shelf.Lists.{append-nil, length-map}
 use Rattle.listing.specs.Reading.{max16, then, entriesFrom, judged, before, directors, someDirectors}
-use Rattle.listing.specs.Reading.{readEntry, readChain, readText, chainOf, Listed, listed, chained, readLines}
+use Rattle.listing.specs.Reading.{readEntry, readChain, readText, chainOf, listed, chained, readLines}
 use Rattle.listing.specs.Pieces.{words, lines}
 use Rattle.listing.proofs.Lined.{Told, same-told}
 use lib.Chars.{codes}
@@ -47,8 +47,8 @@ after-push cs c (Ok ds) = ap Ok (sym (append-assoc cs (c ∷ []) ds))
 after-push cs c (Err f) = refl
 
 pub entries-more : (n : ℕ) (l : List ℕ) (all ls : List (List ℕ)) (c : Command) (cs es : List Command)
-    (o : Result (List Command) Fault) → Some c ≡ readEntry l → true ≡ wellFormed c → all ≡ l ∷ ls → es ≡ cs ++ (c ∷ []) →
-    o ≡ after cs (entriesFrom n all) → o ≡ after es (entriesFrom (n + 1) ls)
+    (o : Result (List Command) Fault) → Some c ≡ readEntry l → true ≡ wellFormed c → all ≡ l ∷ ls →
+    es ≡ cs ++ (c ∷ []) → o ≡ after cs (entriesFrom n all) → o ≡ after es (entriesFrom (n + 1) ls)
 entries-more n l all ls c cs es o p q s t e =
     let u : judged n (readEntry l) (entriesFrom (n + 1) ls) ≡ judged n (Some c) (entriesFrom (n + 1) ls)
     = ap (λ x. judged n x (entriesFrom (n + 1) ls)) (sym p) in
@@ -155,8 +155,8 @@ bytes-differ (m ∷ ms) =
 bytes-valid : (ms : List ℕ) → validChain (map directorByte ms) ≡ validChain ms
 bytes-valid ms = rw (length-map ms directorByte, bytes-differ ms) refl
 
-pub chain-told : (o : Option (List ℕ)) (bs : List ℕ) (r : Result Membership ℕ) → Ok bs ≡ membersTold o → r ≡ founding bs →
-    chainTold o ≡ fromNumber r
+pub chain-told : (o : Option (List ℕ)) (bs : List ℕ) (r : Result Membership ℕ) → Ok bs ≡ membersTold o →
+    r ≡ founding bs → chainTold o ≡ fromNumber r
 chain-told None bs r p q = let z : _≡_ {A = ℕ} 0 1 = cc in absurd (omega arith)
 chain-told (Some ms) bs r p q =
     let b : bs ≡ map directorByte ms = cc in
@@ -210,8 +210,9 @@ chained-ok (Some ms) ls m e =
     (λ v. let g : Ok m ≡ Err InvalidChain = rw v at e in let z : _≡_ {A = ℕ} 0 1 = cc in absurd (omega arith))
     (cases-bool (validChain ms))
 
-pub chain-fault : (text : List ℕ) (o : Option (List ℕ)) (ls : List (List ℕ)) (f : Fault) → readText text ≡ chained o ls →
-    Err f ≡ cond (isMemory f) (Err Memory) (chainTold o) → Err f ≡ cond (isMemory f) (Err Memory) (readText text)
+pub chain-fault : (text : List ℕ) (o : Option (List ℕ)) (ls : List (List ℕ)) (f : Fault) →
+    readText text ≡ chained o ls → Err f ≡ cond (isMemory f) (Err Memory) (chainTold o) →
+    Err f ≡ cond (isMemory f) (Err Memory) (readText text)
 chain-fault text o ls f t e = rw t (pass f _ _ (chained-err o ls) e)
 
 pub entry-fault : (text : List ℕ) (o : Option (List ℕ)) (ls : List (List ℕ)) (m : Membership) (f : Fault) →

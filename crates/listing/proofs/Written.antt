@@ -1,8 +1,7 @@
 -- Numbers as they are written, one after another.
-use mathlib.Core.Path.{_≡_, refl, sym, ap, _∙_}
+use mathlib.Core.Path.{_≡_, sym, ap, _∙_}
 use mathlib.Core.List.{List, [], _∷_, _++_, append-assoc}
-use Prim.Native.Nat.{ℕ, suc, _+_, _≤_, _<_, _^_}
-use native.Mathlib.Omega.{arith}
+use Prim.Native.Nat.{ℕ, _+_, _≤_, _<_, _^_}
 use borrow.Author.Needs.{needs}
 use lib.ListN.{length, getD, take}
 use Rattle.std.specs.Written.{decimal}
@@ -33,6 +32,7 @@ spaced-more ns was now out i h p q =
 pub spaced-all : (ns was now out start word : List ℕ) (i : ℕ) → length ns ≤ i → out ≡ start ++ word →
     was ≡ out ++ spaced (take i ns) → now ≡ was ++ (10 ∷ []) → now ≡ start ++ ((word ++ spaced ns) ++ (10 ∷ []))
 spaced-all ns was now out start word i h w p q =
-    q ∙ ap (λ x. x ++ (10 ∷ []))
-    (p ∙ ap (λ x. out ++ spaced x) (take-all i ns h) ∙ ap (λ x. x ++ spaced ns) w ∙ append-assoc start word (spaced ns)) ∙
-    append-assoc start (word ++ spaced ns) (10 ∷ [])
+    let e : was ≡ start ++ (word ++ spaced ns) =
+    p ∙ ap (λ x. out ++ spaced x) (take-all i ns h) ∙ ap (λ x. x ++ spaced ns) w ∙
+    append-assoc start word (spaced ns) in
+    q ∙ ap (λ x. x ++ (10 ∷ [])) e ∙ append-assoc start (word ++ spaced ns) (10 ∷ [])

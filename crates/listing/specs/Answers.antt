@@ -40,18 +40,19 @@ abbrev pub Next : List (List ℕ) → Option (RefT (List ℕ)) → List (List �
 Next ps None qs = (ps ≡ []) × (qs ≡ [])
 Next ps (Some p) qs = ps ≡ p .now ∷ qs
 
--- the next word is read as a number: what a reading makes of the words is what it makes of that number and the words left
+-- the next word is read as a number: what a reading makes of the words, it makes of that number and the words left
 abbrev pub Field : ℕ → List (List ℕ) → Option ℕ → List (List ℕ) → Type 0
 Field max ws None ws′ = (f : ℕ → List (List ℕ) → Option Command) → field max ws f ≡ None
 Field max ws (Some n) ws′ = (n ≤ max) × ((f : ℕ → List (List ℕ) → Option Command) → field max ws f ≡ f n ws′)
 
--- whether it was memory that ran out
+-- whether a fault is want of memory
 abbrev pub isMemory : Fault → Bool
 isMemory InvalidChain = false
 isMemory (IllFormed line) = false
 isMemory (Unreadable line) = false
 isMemory Memory = true
 
+-- whether an answer tells that memory ran out
 abbrev pub spent : {A : Type 0} → Result A Fault → Bool
 spent (Ok x) = false
 spent (Err f) = isMemory f

@@ -1,5 +1,5 @@
 -- What a line, and a whole text, is read as.
-use mathlib.Core.Bool.{Bool, cond}
+use mathlib.Core.Bool.{cond}
 use mathlib.Core.List.{List, [], _∷_}
 use Prim.Native.Nat.{ℕ, _+_, _-_, _*_, _^_}
 use lib.Chars.{codes}
@@ -41,6 +41,7 @@ abbrev pub ended : List (List ℕ) → Command → Option Command
 ended [] c = Some c
 ended (w ∷ ws) c = None
 
+-- the command with these fields
 abbrev pub command : ℕ → ℕ → ℕ → ℕ → ℕ → Command
 command v o s a b = record { verb = v; origin = o; serial = s; a = a; b = b }
 
@@ -72,11 +73,12 @@ abbrev pub directors : List (List ℕ) → Option (List ℕ)
 directors [] = Some []
 directors (w ∷ ws) = then (numeral max16 w) (λ d. then (directors ws) (λ ds. Some (d ∷ ds)))
 
--- at least one
+-- at least one of them
 abbrev pub someDirectors : List (List ℕ) → Option (List ℕ)
 someDirectors [] = None
 someDirectors (w ∷ ws) = directors (w ∷ ws)
 
+-- the directors of the first line's words
 abbrev pub chainOf : List (List ℕ) → Option (List ℕ)
 chainOf [] = None
 chainOf (w ∷ ws) = cond (sameBytes w (codes "chain")) (someDirectors ws) None
@@ -105,6 +107,7 @@ abbrev pub entriesFrom : ℕ → List (List ℕ) → Result (List Command) Fault
 entriesFrom n [] = Ok []
 entriesFrom n (l ∷ ls) = judged n (readEntry l) (entriesFrom (n + 1) ls)
 
+-- a chain with the commands after it, unless one of their lines is at fault
 abbrev pub listed : Membership → Result (List Command) Fault → Result Listed Fault
 listed m (Ok cs) = Ok (record { chain = m; commands = cs })
 listed m (Err f) = Err f
@@ -114,6 +117,7 @@ abbrev pub chained : Option (List ℕ) → List (List ℕ) → Result Listed Fau
 chained None ls = Err (Unreadable 1)
 chained (Some ms) ls = cond (validChain ms) (listed (founded ms) (entriesFrom 2 ls)) (Err InvalidChain)
 
+-- the lines of a text as a list; with no line at all, line 1 cannot be read
 abbrev pub readLines : List (List ℕ) → Result Listed Fault
 readLines [] = Err (Unreadable 1)
 readLines (l ∷ ls) = chained (readChain l) ls

@@ -3,7 +3,6 @@
 ghost use Rattle.listing.specs.Answers.{wordsLeft, Field};
 ghost use Rattle.listing.specs.Reading.{readEntry, memberOf, changeOf, ended};
 ghost use mathlib.Core.Path.{_≡_};
-ghost use Prim.Native.Nat.{_≤_};
 use crate::cuts::Words;
 use crate::numerals::read_number;
 use command::Command;

@@ -1,5 +1,5 @@
 use native.Mathlib.Omega.{arith}
-use Rattle.listing.proofs.Cutting.{place-here, place-more, place-none, placeOf-le}
+use Rattle.listing.proofs.Cutting.{place-here, place-more, place-none}
 use Rattle.listing.proofs.cuts.place_of.Needs as need
 
 pub returns-then-b-mark : need.returns-then-b-mark

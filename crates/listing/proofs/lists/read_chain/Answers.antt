@@ -1,7 +1,7 @@
 use mathlib.Core.Path.{sym, ap, _∙_}
 use Rattle.std.proofs.shelf.Results.{err-from-errBy}
 use Rattle.command.specs.Chains.{founding}
-use Rattle.listing.proofs.Whole.{chain-told, fromNumber}
+use Rattle.listing.proofs.Whole.{chain-told}
 use Rattle.listing.proofs.lists.read_chain.Needs as need
 
 pub returns-in-Break-new : need.returns-in-Break-new

@@ -1,4 +1,4 @@
-use mathlib.Core.Path.{sym, ap, _∙_}
+use mathlib.Core.Path.{sym, ap}
 use native.Mathlib.Omega.{arith}
 use lib.ListN.{length, length-append}
 use Prim.Native.Nat.{_<_}
@@ -14,7 +14,8 @@ pub returns-in-rest-read-number : need.returns-in-rest-read-number
 returns-in-rest-read-number c =
     let n : 0 < length (wordsLeft (c .args .words)) = omega (arith, ap length (c .in-Some .ensures tt)) in
     rw (whole.some-directors _ n)
-    (whole.directors-stop (c .in-Some .word .now) _ _ (vec-items (c .loop-word .members)) (directors (wordsLeft (c .args .words)))
+    (whole.directors-stop (c .in-Some .word .now) _ _ (vec-items (c .loop-word .members))
+    (directors (wordsLeft (c .args .words)))
     (c .in-rest-read-number .ensures tt) (c .in-Some .ensures tt) (c .loop-word .inv .1))
 
 pub loop-word-again : need.loop-word-again
@@ -40,4 +41,5 @@ pub returns : need.returns
 returns c =
     let e = eqb-false _ _ (sym (c .if-is-empty .ensures tt)) in
     let n : 0 < length (wordsLeft (c .args .words)) = omega (arith, c .loop-word .members .ok .0) in
-    rw (whole.some-directors _ n) (whole.members-end (wordsLeft (c .args .words)) _ _ (c .in-rest .ensures tt .0) (c .loop-word .inv .1))
+    rw (whole.some-directors _ n)
+    (whole.members-end (wordsLeft (c .args .words)) _ _ (c .in-rest .ensures tt .0) (c .loop-word .inv .1))

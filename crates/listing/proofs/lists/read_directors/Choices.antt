@@ -1,7 +1,7 @@
 use mathlib.Core.Path.{_≡_}
 use Prim.Native.Nat.{_+_}
 use lib.ListN.{length}
-use Rattle.std.specs.Of.Vec.{vec-items, vec-len}
+use Rattle.std.specs.Of.Vec.{vec-items}
 use Rattle.listing.specs.Answers.{wordsLeft}
 use Rattle.listing.specs.Reading.{directors}
 use Rattle.listing.proofs.Whole.{bytes, afterBytes}

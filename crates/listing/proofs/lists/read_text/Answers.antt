@@ -20,7 +20,8 @@ returns-in-Break-chain c =
 
 pub returns-in-Break-commands : need.returns-in-Break-commands
 returns-in-Break-commands c =
-    let p = err-from-errBy (c .from-residual-in-Break-commands .result) (c .from-residual-in-Break-commands .ensures .1) in
+    let f = c .from-residual-in-Break-commands in
+    let p = err-from-errBy (f .result) (f .ensures .1) in
     rw (p .1, p .2)
     (entry-fault _ (readChain (c .in-Some .first .now)) (linesLeft (c .next .last .self)) _ _
     (text-from (c .args .text .now) _ _ _ refl (c .in-Some .ensures tt))

@@ -1,6 +1,5 @@
 use mathlib.Core.Path.{_≡_}
 use mathlib.Core.List.{_++_}
-use lib.Chars.{codes}
 use lib.ListN.{take}
 use Rattle.std.specs.Of.String.{string-bytes}
 use Rattle.listing.specs.Writing.{spaced}
