@@ -110,11 +110,11 @@ entry-back c h = by (form c (h .well))
   where
     by : Form c → readEntry (lineOf c) ≡ Some c
     by (noop p q) = ap readEntry p ∙ noop-back ∙ ap Some q
-    by (add p q) = ap readEntry p ∙ add-back (c .a) (h .a) ∙ ap Some q
-    by (remove p q) = ap readEntry p ∙ remove-back (c .a) (h .a) ∙ ap Some q
+    by (add p q) = ap readEntry p ∙ add-back (c .a) (omega (arith, h .sized .a)) ∙ ap Some q
+    by (remove p q) = ap readEntry p ∙ remove-back (c .a) (omega (arith, h .sized .a)) ∙ ap Some q
     by (change p) =
         ap readEntry p ∙
-        change-back (c .verb) (c .origin) (c .serial) (c .a) (c .b) (h .verb) (h .origin) (h .serial) (h .a) (h .b)
+        change-back (c .verb) (c .origin) (c .serial) (c .a) (c .b) (omega (arith, h .sized .verb)) (omega (arith, h .sized .origin)) (omega (arith, h .sized .serial)) (omega (arith, h .sized .a)) (omega (arith, h .sized .b))
 
 line-lacks : (w ns : List ℕ) → lacks 10 w ≡ true → Small ns → lacks 10 (w ++ spaced ns) ≡ true
 line-lacks w ns h s = lacks-append 10 w (spaced ns) h (spaced-lacks ns s)
@@ -125,18 +125,18 @@ entry-lacks c h = by (form c (h .well))
     by : Form c → lacks 10 (lineOf c) ≡ true
     by (noop p q) = ap (lacks 10) p
     by (add p q) =
-        ap (lacks 10) p ∙ line-lacks (codes "add") (c .a ∷ []) refl (omega (arith, h .a), tt)
+        ap (lacks 10) p ∙ line-lacks (codes "add") (c .a ∷ []) refl (omega (arith, h .sized .a), tt)
     by (remove p q) =
-        ap (lacks 10) p ∙ line-lacks (codes "remove") (c .a ∷ []) refl (omega (arith, h .a), tt)
+        ap (lacks 10) p ∙ line-lacks (codes "remove") (c .a ∷ []) refl (omega (arith, h .sized .a), tt)
     by (change p) =
         ap (lacks 10) p ∙
         line-lacks (codes "change") (c .verb ∷ c .origin ∷ c .serial ∷ c .a ∷ c .b ∷ []) refl (
-          omega (arith, h .verb),
+          omega (arith, h .sized .verb),
           (
-            omega (arith, h .origin),
+            omega (arith, h .sized .origin),
             (
-              omega (arith, h .serial),
-              (omega (arith, h .a), (omega (arith, h .b), tt)),
+              omega (arith, h .sized .serial),
+              (omega (arith, h .sized .a), (omega (arith, h .sized .b), tt)),
             ),
           ),
         )

@@ -2,27 +2,22 @@
 use mathlib.Core.Bool.{true}
 use mathlib.Core.Path.{_≡_}
 use mathlib.Core.List.{List}
-use Prim.Native.Nat.{ℕ, _≤_}
+use Prim.Native.Nat.{ℕ}
 use Rattle.std.specs.declared.result.Result.{Result}
 use Rattle.std.specs.declared.result.Result.the-variants.{Ok}
 use Rattle.std.specs.shelf.Lists.{All}
 use Rattle.command.specs.declared.Command.{Command}
-use Rattle.command.specs.Commands.{wellFormed}
+use Rattle.command.specs.Commands.{wellFormed, Sized}
 use Rattle.command.specs.Members.{validChain, founded}
 use Rattle.listing.specs.declared.faults.Fault.{Fault}
 use Rattle.listing.specs.declared.lists.YearList.{YearList}
 use Rattle.listing.specs.Answers.{Tells, listOf}
-use Rattle.listing.specs.Reading.{max8, max16, maxSerial}
 use Rattle.listing.specs.Writing.{textOf}
 
 -- a command that may stand in a list: well formed, and each field within its width
 pub record Listable (c : Command) : Type 0 where
   pub well : wellFormed c ≡ true
-  pub verb : c .verb ≤ max8
-  pub origin : c .origin ≤ max16
-  pub serial : c .serial ≤ maxSerial
-  pub a : c .a ≤ max16
-  pub b : c .b ≤ max16
+  pub sized : Sized c
 
 -- where the text is the written form of a valid chain and of commands that may stand in a list, just these are read
 abbrev pub Reads-back : List ℕ → Result YearList Fault → Type 0

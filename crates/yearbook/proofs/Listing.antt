@@ -86,11 +86,7 @@ read-sound text l e = lines-sound (lines text) l e
 -- commands of an archive can be written as text
 listables : (cs : List Command) → All (λ c. wellFormed c ≡ true) cs → All Sized cs → All Listable cs
 listables [] w s = tt
-listables (c ∷ cs) w s =
-    let z = s .0 in (
-      record { well = w .0; verb = omega arith; origin = omega arith; serial = omega arith; a = omega arith; b = omega arith },
-      listables cs (w .1) (s .1),
-    )
+listables (c ∷ cs) w s = (record { well = w .0; sized = s .0 }, listables cs (w .1) (s .1))
 
 -- the text of a whole file tells a list whose archive is the file
 pub told : (f text : List ℕ) → Exact f → fault f ≡ None → text ≡ textOf (membersOf f) (scanned f .commands) → Told f text
