@@ -9,6 +9,7 @@ use Rattle.std.specs.declared.option.Option.{Option}
 use Rattle.std.specs.declared.option.Option.the-variants.{Some, None}
 use Rattle.std.specs.declared.result.Result.{Result}
 use Rattle.std.specs.declared.result.Result.the-variants.{Ok, Err}
+use Rattle.std.specs.Vec.{made}
 use Rattle.bytes.specs.Areas.{over}
 use Rattle.bytes.specs.Numbers.{le}
 use Rattle.command.specs.declared.Command.{Command}
@@ -79,3 +80,22 @@ pub data Run : List ℕ → OpenArchive → List ℕ → List Command → Type 0
 pub record Sealed (area exit : List ℕ) (o : OpenArchive) (ms : List ℕ) (cs : List Command) : Type 0 where
   pub accepted : sealRefusal area o ≡ None
   pub file : Archive (take (sealed o .length) exit) ms cs
+
+-- the calls, by their answer, what they write, and what they make of a run
+
+pub record Begins (area ms exit : List ℕ) (r : Result OpenArchive Refusal) : Type 0 where
+  pub answer : r ≡ answer (λ e. e) (beginRefusal area ms) (begun ms)
+  pub writes : exit ≡ left (beginRefusal area ms) area (over area 0 (header ms))
+  pub run : made r (λ o. Run exit o ms [])
+
+pub record Adds (area : List ℕ) (o : OpenArchive) (c : Command) (exit : List ℕ)
+    (r : Result OpenArchive (OpenArchive × Refusal)) : Type 0 where
+  pub answer : r ≡ answer (λ e. (o, e)) (addRefusal area o c) (grown o c)
+  pub writes : exit ≡ left (addRefusal area o c) area (over area (o .at) (entry c))
+  pub run : (ms : List ℕ) (cs : List Command) → Run area o ms cs → made r (λ p. Run exit p ms (cs ++ (c ∷ [])))
+
+pub record Seals (area : List ℕ) (o : OpenArchive) (exit : List ℕ)
+    (r : Result SealedArchive (OpenArchive × Refusal)) : Type 0 where
+  pub answer : r ≡ answer (λ e. (o, e)) (sealRefusal area o) (sealed o)
+  pub writes : exit ≡ left (sealRefusal area o) area (over area (o .at) (le countBytes (o .count)))
+  pub run : (ms : List ℕ) (cs : List Command) → Run area o ms cs → Sealed area exit o ms cs

@@ -35,7 +35,8 @@ impl Entry<'_> {
     /// The command that the entry tells, if its bytes are one whole entry: those of a reader always are.
     pub fn command(&self) -> Option<Command>
         ensures answer { λ r. ⌜ r ≡ decoded (now (now (self .entry) .bytes)) ⌝ }
-        ensures back { λ r. ⌜ ((c : Command) → wellFormed c ≡ true → Sized c → now (now (self .entry) .bytes) ≡ entry c → r ≡ Some c) ⌝ }
+        ensures back { λ r. ⌜ ((c : Command) → wellFormed c ≡ true → Sized c
+            → now (now (self .entry) .bytes) ≡ entry c → r ≡ Some c) ⌝ }
     {
         let bytes = self.bytes;
         if bytes.is_empty() || size_of(bytes) != bytes.len() {

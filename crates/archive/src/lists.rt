@@ -40,7 +40,8 @@ pub fn write_list(
     members: &[u8],
     commands: &[Command],
 ) -> Result<SealedArchive, ListRefusal>
-    ensures wrote { λ r. ⌜ Wrote (now (members .entry)) (now (commands .entry)) (now (area .entry)) (now (area .exit)) r ⌝ }
+    ensures wrote { λ r. ⌜ Wrote (now (members .entry)) (now (commands .entry))
+        (now (area .entry)) (now (area .exit)) r ⌝ }
     ensures space { λ _. ⌜ Enough-space ⌝ }
 {
     let mut open = match OpenArchive::begin(area, members) {

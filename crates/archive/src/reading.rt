@@ -107,7 +107,8 @@ impl<'a> Reader<'a> {
     /// Entry n, counted from 1, as its offset and its bytes, a part of the file, if there is one.
     pub fn entry(&self, n: usize) -> Option<Entry<'a>>
         ensures answer { λ r. ⌜ shown r ≡ entryAt n (now (self .entry) .end) (now (now (self .entry) .body)) ⌝ }
-        ensures meaning { λ r. ⌜ ((f ms : List ℕ) (cs : List Command) → Reads f (now (self .entry)) → Archive f ms cs → shown r ≡ entryOf ms cs n) ⌝ }
+        ensures meaning { λ r. ⌜ ((f ms : List ℕ) (cs : List Command) → Reads f (now (self .entry)) → Archive f ms cs
+            → shown r ≡ entryOf ms cs n) ⌝ }
     {
         if n == 0 {
             return None;

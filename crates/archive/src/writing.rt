@@ -1,19 +1,15 @@
 //! The writer: an open archive that grows entry by entry and is spent by seal or strike.
 
-ghost use Prim.Native.Nat.{ℕ, _+_, _<_, _≤_};
+ghost use Prim.Native.Nat.{_+_, _<_, _≤_};
 ghost use Rattle.archive.specs.Layout.{header, entry};
-ghost use Rattle.archive.specs.Writing.{refusalNumber, answer, left, beginRefusal, begun, addRefusal, grown};
-ghost use Rattle.archive.specs.Writing.{sealRefusal, sealed, hasRoom, Run, Sealed};
+ghost use Rattle.archive.specs.Writing.{refusalNumber, hasRoom, Begins, Adds, Seals};
 ghost use Rattle.bytes.specs.Areas.{over};
-ghost use Rattle.bytes.specs.Numbers.{le};
 ghost use Rattle.command.specs.Commands.{verbOf, wellFormed, serialBytes, Sized};
-ghost use Rattle.command.specs.declared.Command.{Command};
 ghost use Rattle.command.specs.declared.Verb.the-variants.{Change};
-ghost use Rattle.std.specs.Vec.{made};
 ghost use Rattle.std.specs.declared.option.Option.the-variants.{Some};
 ghost use lib.ListN.{length, replicate};
 ghost use mathlib.Core.Bool.{true};
-ghost use mathlib.Core.List.{List, [], _∷_, _++_};
+ghost use mathlib.Core.List.{[], _∷_};
 ghost use mathlib.Core.Path.{_≡_};
 use crate::COUNT_BYTES;
 use crate::HEADER_BYTES;
@@ -67,9 +63,7 @@ impl Refusal {
 impl OpenArchive {
     /// Writes mark and founding chain at the front of the area. Refusals 11 (no valid chain) and 14 (no space).
     pub fn begin(area: &mut [u8], members: &[u8]) -> Result<OpenArchive, Refusal>
-        ensures answer { λ r. ⌜ r ≡ answer (λ e. e) (beginRefusal (now (area .entry)) (now (members .entry))) (begun (now (members .entry))) ⌝ }
-        ensures writes { λ _. ⌜ now (area .exit) ≡ left (beginRefusal (now (area .entry)) (now (members .entry))) (now (area .entry)) (over (now (area .entry)) 0 (header (now (members .entry)))) ⌝ }
-        ensures run { λ r. ⌜ made r (λ o. Run (now (area .exit)) o (now (members .entry)) []) ⌝ }
+        ensures { λ r. ⌜ Begins (now (area .entry)) (now (members .entry)) (now (area .exit)) r ⌝ }
     {
         if !is_chain(members) {
             return Err(Refusal::InvalidChain);
@@ -82,15 +76,13 @@ impl OpenArchive {
         Ok(OpenArchive { at, count: 0 })
     }
 
-    /// Appends an entry. Refusals 5 (ill formed), 16 (65,535 entries) and 14 (no space); the archive is handed back then.
+    /// Appends an entry. Refusals 5 (ill formed), 16 (65,535 entries) and 14 (no space); the archive is then handed back.
     pub fn add(
         self,
         area: &mut [u8],
         command: &Command,
     ) -> Result<OpenArchive, (OpenArchive, Refusal)>
-        ensures answer { λ r. ⌜ r ≡ answer (λ e. (self, e)) (addRefusal (now (area .entry)) self (now (command .entry))) (grown self (now (command .entry))) ⌝ }
-        ensures writes { λ _. ⌜ now (area .exit) ≡ left (addRefusal (now (area .entry)) self (now (command .entry))) (now (area .entry)) (over (now (area .entry)) (self .at) (entry (now (command .entry)))) ⌝ }
-        ensures run { λ r. ⌜ ((ms : List ℕ) (cs : List Command) → Run (now (area .entry)) self ms cs → made r (λ o. Run (now (area .exit)) o ms (cs ++ (now (command .entry) ∷ [])))) ⌝ }
+        ensures { λ r. ⌜ Adds (now (area .entry)) self (now (command .entry)) (now (area .exit)) r ⌝ }
     {
         if !command.is_well_formed() {
             return Err((self, Refusal::IllFormed));
@@ -119,9 +111,7 @@ impl OpenArchive {
 
     /// Writes the count, which finishes the file. Refusal 14 (no space); the archive is handed back then.
     pub fn seal(self, area: &mut [u8]) -> Result<SealedArchive, (OpenArchive, Refusal)>
-        ensures answer { λ r. ⌜ r ≡ answer (λ e. (self, e)) (sealRefusal (now (area .entry)) self) (sealed self) ⌝ }
-        ensures writes { λ _. ⌜ now (area .exit) ≡ left (sealRefusal (now (area .entry)) self) (now (area .entry)) (over (now (area .entry)) (self .at) (le 2 (self .count))) ⌝ }
-        ensures run { λ _. ⌜ ((ms : List ℕ) (cs : List Command) → Run (now (area .entry)) self ms cs → Sealed (now (area .entry)) (now (area .exit)) self ms cs) ⌝ }
+        ensures { λ r. ⌜ Seals (now (area .entry)) self (now (area .exit)) r ⌝ }
     {
         if !has_room(area, self.at, 0) {
             return Err((self, Refusal::NoSpace));
@@ -208,7 +198,8 @@ fn write_entry(area: &mut [u8], at: usize, command: &Command)
 fn write_membership(area: &mut [u8], at: usize, command: &Command)
     requires low { ⌜ now command .a ≤ 31 ⌝ }
     requires within { ⌜ at + 2 ≤ length (now area) ⌝ }
-    ensures { λ _. ⌜ now (area .exit) ≡ over (now (area .entry)) at (now (command .entry) .verb ∷ now (command .entry) .a ∷ []) ⌝ }
+    ensures { λ _. ⌜ now (area .exit)
+        ≡ over (now (area .entry)) at (now (command .entry) .verb ∷ now (command .entry) .a ∷ []) ⌝ }
 {
     write_u8(area, at, command.verb);
     write_u8(area, at + 1, command.a as u8);

@@ -1,4 +1,4 @@
-//! Commands of the list of changes, sets of directors, and the chain of directors that counts for each slot of the list.
+//! Commands of the list of changes, sets of directors, and the chain of directors that counts for each slot.
 
 mod chains;
 mod enough;

@@ -18,7 +18,7 @@ pub struct Lines<'a> {
 
 impl<'a> Lines<'a> {
     /// The next line, without its end.
-    pub fn next(&mut self) -> Option<&'a [u8]>
+    pub(crate) fn next(&mut self) -> Option<&'a [u8]>
         ensures { λ r. ⌜ Next (linesLeft (now (self .entry))) r (linesLeft (now (self .exit))) ⌝ }
     {
         let rest = self.rest;
@@ -44,7 +44,7 @@ pub struct Words<'a> {
 
 impl<'a> Words<'a> {
     /// All words of a line.
-    pub fn of(line: &'a [u8]) -> Words<'a>
+    pub(crate) fn of(line: &'a [u8]) -> Words<'a>
         ensures { λ r. ⌜ wordsLeft r ≡ words (now (line .entry)) ⌝ }
     {
         Words {
@@ -54,7 +54,7 @@ impl<'a> Words<'a> {
     }
 
     /// The next word.
-    pub fn next(&mut self) -> Option<&'a [u8]>
+    pub(crate) fn next(&mut self) -> Option<&'a [u8]>
         ensures { λ r. ⌜ Next (wordsLeft (now (self .entry))) r (wordsLeft (now (self .exit))) ⌝ }
     {
         if !self.more {

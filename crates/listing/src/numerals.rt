@@ -4,7 +4,7 @@ ghost use Rattle.listing.specs.Numbers.{numeral};
 ghost use mathlib.Core.Path.{_≡_};
 
 /// The number that a word writes, where it is at most `max`: digits with no needless zero before them.
-pub fn read_number(word: &[u8], max: u64) -> Option<u64>
+pub(crate) fn read_number(word: &[u8], max: u64) -> Option<u64>
     ensures { λ r. ⌜ r ≡ numeral max (now (word .entry)) ⌝ }
 {
     if word.is_empty() {

@@ -1,6 +1,7 @@
 //! A small year, sealed into a file, read back and compared.
 
 use crate::jobs;
+use crate::show::Table;
 use crate::words;
 use archive::Reader;
 use std::error::AnyError;
@@ -17,11 +18,12 @@ noop
 add 3
 remove 1
 change 17 3 3 5 0
+change 16 4 1 7 250
 change 255 65535 4294967295 65535 65535
 ";
 
 /// Seals the small year, reads it back, and prints what was done.
-pub fn run(rt: &LibcRuntime) -> Result<(), AnyError> {
+pub(crate) fn run(rt: &LibcRuntime) -> Result<(), AnyError> {
     let heap = rt.alloc();
     println!(rt, "a small year, as text:")?;
     rt.print(LIST)?;
@@ -42,15 +44,19 @@ pub fn run(rt: &LibcRuntime) -> Result<(), AnyError> {
         return jobs::fail(rt, "year: the text is not what was sealed");
     }
     println!(rt, "its text is the text that was sealed")?;
-    break_one(rt, &mut file)
+    show_and_break(rt, &mut file)
 }
 
-// Breaks the verb of the third entry, and prints the refusal that opening then gives.
-fn break_one(rt: &LibcRuntime, file: &mut Vec<u8>) -> Result<(), AnyError> {
+// Prints the file for people, then breaks the verb of its third entry and prints the refusal that opening then gives.
+fn show_and_break(rt: &LibcRuntime, file: &mut Vec<u8>) -> Result<(), AnyError> {
+    let length = file.len();
+    if let Ok(reader) = Reader::open(file.as_slice()) {
+        jobs::print_shown(rt, &reader, length, Table::Weights)?;
+        jobs::print_shown(rt, &reader, length, Table::Holdings)?;
+    }
     if let Some(byte) = file.get_mut(30) {
         *byte = 3;
     }
-    let length = file.len();
     match Reader::open(file.as_slice()) {
         Ok(_) => jobs::fail(rt, "year: the broken file was read"),
         Err(broken) => {

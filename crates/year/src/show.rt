@@ -1,6 +1,5 @@
 //! What an archive file holds, for people.
 
-use crate::jobs::numbers;
 use archive::Entry;
 use archive::Reader;
 use command::Chain;
@@ -11,43 +10,45 @@ use layers::OnceOnlyMachine;
 use layers::Stack;
 use layers::new_stack;
 use layers::stack_weight;
+use listing::Fault;
+use listing::FaultFromFmt;
+use listing::write_chain;
 use machine::Ledger;
 use machine::LedgerMachine;
 use machine::Machine;
 use machine::PoolMachine;
 use std::alloc::Global;
-use std::error::AnyError;
 
 /// Which table the list is replayed into.
 #[derive(Clone, Copy)]
-pub enum Table {
+pub(crate) enum Table {
     Weights,
     Holdings,
 }
 
 /// The header, the entries, the chain after all of them, and the table that the list leads to.
-pub fn text(
+pub(crate) fn text(
     heap: Global,
     reader: &Reader,
     length: usize,
     table: Table,
-) -> Result<String, AnyError> {
+) -> Result<String, Fault> {
     let mut text = String::new(heap);
     let count = reader.count();
-    let founding = numbers(heap, reader.members())?;
-    writeln!(
+    write!(
         text,
-        "archive of {count} entries, {length} bytes, founding chain{founding}"
+        "archive of {count} entries, {length} bytes, founding "
     )?;
+    write_chain(&mut text, reader.members())?;
     match table {
         Table::Weights => {
             let mut stack = new_stack();
-            write_entries(&mut text, heap, reader, &mut stack)?;
+            write_entries(&mut text, reader, &mut stack)?;
             write_weights(&mut text, &stack)?;
         }
         Table::Holdings => {
             let mut ledger = Ledger::new();
-            write_entries(&mut text, heap, reader, &mut ledger)?;
+            write_entries(&mut text, reader, &mut ledger)?;
             write_holdings(&mut text, &ledger)?;
         }
     }
@@ -57,10 +58,9 @@ pub fn text(
 // A line for each entry, which is replayed too, and the chain after all of them.
 fn write_entries<M: Machine>(
     text: &mut String,
-    heap: Global,
     reader: &Reader,
     machine: &mut M,
-) -> Result<(), AnyError> {
+) -> Result<(), Fault> {
     let Ok(founding) = Chain::new(reader.members()) else {
         return Ok(());
     };
@@ -76,9 +76,8 @@ fn write_entries<M: Machine>(
             replay(machine, &command);
         }
     }
-    let members = numbers(heap, chain.members())?;
-    writeln!(text, "chain after the list{members}")?;
-    Ok(())
+    write!(text, "after the list: ")?;
+    write_chain(text, chain.members())
 }
 
 // A machine gets only the commands that are for it.
@@ -94,7 +93,7 @@ fn write_line(
     before: usize,
     entry: &Entry,
     command: &Command,
-) -> Result<(), AnyError> {
+) -> Result<(), Fault> {
     let number = before.saturating_add(1);
     let offset = entry.offset;
     let (verb, origin, serial, a, b) = (
@@ -119,7 +118,7 @@ fn write_line(
 }
 
 // The weights that are not 0.
-fn write_weights(text: &mut String, stack: &Stack) -> Result<(), AnyError> {
+fn write_weights(text: &mut String, stack: &Stack) -> Result<(), Fault> {
     writeln!(text, "weights that are not 0, after freeze and once-only:")?;
     for backend in 0..64u8 {
         let weight = stack_weight(stack, backend);
@@ -131,7 +130,7 @@ fn write_weights(text: &mut String, stack: &Stack) -> Result<(), AnyError> {
 }
 
 // The holdings that are not 0, and what is free.
-fn write_holdings(text: &mut String, ledger: &Ledger) -> Result<(), AnyError> {
+fn write_holdings(text: &mut String, ledger: &Ledger) -> Result<(), Fault> {
     writeln!(text, "addresses held:")?;
     for host in 0..64u8 {
         let held = ledger.holding(host);

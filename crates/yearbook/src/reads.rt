@@ -29,7 +29,8 @@ pub fn text_of(heap: Global, file: &[u8]) -> Result<String, ReadFault>
 
 // Appends the lines of the entries that are to come.
 fn write_entries(text: &mut String, entries: Entries) -> Result<(), Fault>
-    ensures { λ r. ⌜ made r (λ _. string-bytes (now (text .exit)) ≡ string-bytes (now (text .entry)) ++ linesLeft (entries .entry)) ⌝ }
+    ensures { λ r. ⌜ made r (λ _. string-bytes (now (text .exit))
+        ≡ string-bytes (now (text .entry)) ++ linesLeft (entries .entry)) ⌝ }
 {
     let mut left = entries;
     while let Some(command) = left.next_command() {

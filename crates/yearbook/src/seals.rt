@@ -46,7 +46,8 @@ pub fn seal_text(heap: Global, text: &[u8]) -> Result<SealedYear, SealFault>
 fn file_of(heap: Global, members: &[u8], commands: &[Command]) -> Result<Vec<u8>, SealFault>
     requires chain { ⌜ validChain (now members) ≡ true ⌝ }
     requires formed { ⌜ All (λ c. wellFormed c ≡ true) (now commands) ⌝ }
-    ensures { λ r. ⌜ Cases r (λ v. Archive (vec-items v) (now (members .entry)) (now (commands .entry))) (Unfiled (now (commands .entry))) ⌝ }
+    ensures { λ r. ⌜ Cases r (λ v. Archive (vec-items v) (now (members .entry)) (now (commands .entry)))
+        (Unfiled (now (commands .entry))) ⌝ }
 {
     let Some(space) = space_for(members.len(), commands.len()) else {
         return Err(SealFault::Memory);
