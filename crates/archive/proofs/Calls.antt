@@ -29,7 +29,8 @@ pub add-taken : (area : List ℕ) (o : OpenArchive) (c : Command) (n : ℕ) → 
     → n ≡ length (entry c) → hasRoom area (o .at) n ≡ true → addRefusal area o c ≡ None
 add-taken area o c n p l e q =
     λ j. cond (p j)
-    (cond (lt-ltb (o .count) 65535 l j) (cond ((ap (hasRoom area (o .at)) (sym e) ∙ q) j) None (Some NoSpace)) (Some Full))
+    (cond (lt-ltb (o .count) 65535 l j) (cond ((ap (hasRoom area (o .at)) (sym e) ∙ q) j) None (Some NoSpace))
+    (Some Full))
     (Some IllFormed)
 
 -- what an answer tells of the refusal

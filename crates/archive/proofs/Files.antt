@@ -8,9 +8,11 @@ use lib.Dec.{eqb, leb, ltb}
 use lib.ListN.{length, take, drop, getD}
 use Rattle.std.specs.declared.option.Option.{Option}
 use Rattle.std.specs.declared.option.Option.the-variants.{Some, None}
-use Rattle.std.proofs.shelf.Tests.{and-parts, and-from, le-leb, leb-true, eqb-true, eq-eqb, le-ltb, ltb-false, cond-true}
+use Rattle.std.proofs.shelf.Tests.{and-parts, and-from, le-leb, leb-true, eqb-true, eq-eqb, le-ltb, ltb-false}
+use Rattle.std.proofs.shelf.Tests.{cond-true}
 use Rattle.std.proofs.shelf.Elements.{all-drop, all-take}
-use Rattle.std.proofs.shelf.Lists.{length-append, length-drop, length-take-le, take-at, drop-at, take-append-drop, take-take}
+use Rattle.std.proofs.shelf.Lists.{length-append, length-drop, length-take-le, take-at, drop-at, take-append-drop}
+use Rattle.std.proofs.shelf.Lists.{take-take}
 use Rattle.std.proofs.shelf.Equals.{sameBytes-decides}
 use Rattle.bytes.specs.Areas.{part}
 use Rattle.bytes.specs.Numbers.{le, num}
@@ -20,7 +22,8 @@ use Rattle.command.specs.declared.Command.{Command}
 use Rattle.command.specs.Members.{validChain}
 use Rattle.command.proofs.Lists.{valid-parts}
 use Rattle.archive.specs.Layout.{mark, header, entries, layout, Archive}
-use Rattle.archive.specs.Reading.{hasMark, hasChain, hasCount, orCount, fault, scanned, scanAll, found, membersOf, startOf, countAt, bodyOf}
+use Rattle.archive.specs.Reading.{hasMark, hasChain, hasCount, orCount, fault, scanned, scanAll, found, membersOf}
+use Rattle.archive.specs.Reading.{startOf, countAt, bodyOf}
 use Rattle.archive.specs.Readers.{Exact}
 use Rattle.archive.proofs.OneEntry.{part-join}
 use Rattle.archive.proofs.Scans.{scan-entries, whole, some-none}
@@ -87,7 +90,8 @@ module _ (ms body tail : List ℕ) (two : length tail ≡ 2) where
       ap (drop (countAt file)) shape ∙ drop-at (header ms ++ body) tail (countAt file) (sym laid-count)
 
 -- where the count and the entries of a written file are
-pub file-count : (f ms : List ℕ) (cs : List Command) → Archive f ms cs → countAt f ≡ length (header ms) + length (entries cs)
+pub file-count : (f ms : List ℕ) (cs : List Command) → Archive f ms cs
+    → countAt f ≡ length (header ms) + length (entries cs)
 unfolding layout
 file-count f ms cs a =
     ap countAt (a .laid) ∙ laid-count ms (entries cs) (le 2 (length cs)) refl ∙ length-append (header ms) (entries cs)
@@ -117,7 +121,8 @@ written f ms cs a =
     (ap num (laid-tail ms (entries cs) (le 2 (length cs)) refl) ∙ num-le 2 (length cs) (omega (arith, a .few))) in
     let all : fault file ≡ None =
     fault-by file false true true (le-ltb (length file) 8 (omega arith)) refl chain
-    ∙ (ap (λ s. orCount file (s .commands) (s .broken)) scan ∙ cond-true (hasCount file cs) None (Some (countAt file)) count) in
+    ∙ (ap (λ s. orCount file (s .commands) (s .broken)) scan
+    ∙ cond-true (hasCount file cs) None (Some (countAt file)) count) in
     rw same (all, members, ap (λ s. s .commands) scan)
 
 -- ---- what is found whole was written
@@ -156,7 +161,8 @@ read-back f b e =
     let c = and-parts (leb (startOf f) (countAt f)) (validChain (membersOf f)) (p .chained) in
     let fits = leb-true (startOf f) (countAt f) (c .0) in
     let long = ltb-false (length f) 8 (p .long) in
-    let bytes-body = all-drop (λ x. x < 256) (startOf f) (take (countAt f) f) (all-take (λ x. x < 256) (countAt f) f b) in
+    let bytes-body = all-drop (λ x. x < 256) (startOf f) (take (countAt f) f)
+    (all-take (λ x. x < 256) (countAt f) f b) in
     let w = whole (countAt f) (bodyOf f) bytes-body (q .0) in
     let tail = drop (countAt f) f in
     let two = count-length f fits long in

@@ -67,7 +67,8 @@ pub record Reread (v : Option Verb) (c : Command) (t : List ℕ) : Type 0 where
   pub same : commandOf (entryAs v c ++ t) ≡ c
   pub some : 1 ≤ length (entryAs v c)
 
-reread-as : (v : Option Verb) (c : Command) (t : List ℕ) → verbOf (c .verb) ≡ v → fits v c ≡ true → Sized c → Reread v c t
+reread-as : (v : Option Verb) (c : Command) (t : List ℕ) → verbOf (c .verb) ≡ v → fits v c ≡ true → Sized c
+    → Reread v c t
 reread-as None c t e h s = absurd (mathlib.Core.Bool.false≢true h)
 reread-as (Some Noop) c t e h s =
     let p = and-parts (untold c) (eqb (c .a) 0) h in
@@ -76,7 +77,8 @@ reread-as (Some Noop) c t e h s =
     record {
       size = ap (λ v. within (length bs) (sizeAs v (getD bs 1 0))) e ∙ within-all 1 (length bs) (omega arith);
       same = ap (λ v. commandAs v bs) e
-          ∙ same-command _ c (sym (kind-of (c .verb) (Some Noop) e)) (sym (u .origin)) (sym (u .serial)) (sym (eqb-true _ 0 (p .1))) (sym (u .b));
+          ∙ same-command _ c (sym (kind-of (c .verb) (Some Noop) e)) (sym (u .origin)) (sym (u .serial))
+          (sym (eqb-true _ 0 (p .1))) (sym (u .b));
       some = omega arith;
     }
 reread-as (Some Add) c t e h s =
@@ -87,7 +89,8 @@ reread-as (Some Add) c t e h s =
       size = ap (λ v. within (length bs) (sizeAs v (c .a))) e
           ∙ ap (within (length bs)) (cond-true (leb (c .a) 31) 2 0 (p .1)) ∙ within-all 2 (length bs) (omega arith);
       same = ap (λ v. commandAs v bs) e
-          ∙ same-command _ c (sym (kind-of (c .verb) (Some Add) e)) (sym (u .origin)) (sym (u .serial)) refl (sym (u .b));
+          ∙ same-command _ c (sym (kind-of (c .verb) (Some Add) e)) (sym (u .origin)) (sym (u .serial)) refl
+          (sym (u .b));
       some = omega arith;
     }
 reread-as (Some Remove) c t e h s =
@@ -98,13 +101,15 @@ reread-as (Some Remove) c t e h s =
       size = ap (λ v. within (length bs) (sizeAs v (c .a))) e
           ∙ ap (within (length bs)) (cond-true (leb (c .a) 31) 2 0 (p .1)) ∙ within-all 2 (length bs) (omega arith);
       same = ap (λ v. commandAs v bs) e
-          ∙ same-command _ c (sym (kind-of (c .verb) (Some Remove) e)) (sym (u .origin)) (sym (u .serial)) refl (sym (u .b));
+          ∙ same-command _ c (sym (kind-of (c .verb) (Some Remove) e)) (sym (u .origin)) (sym (u .serial)) refl
+          (sym (u .b));
       some = omega arith;
     }
 reread-as (Some Change) c t e h s =
     let bs = entryAs (Some Change) c ++ t in
     record {
-      size = ap (λ v. within (length bs) (sizeAs v (getD bs 1 0))) e ∙ within-all (7 + serialBytes) (length bs) (omega arith);
+      size = ap (λ v. within (length bs) (sizeAs v (getD bs 1 0))) e
+          ∙ within-all (7 + serialBytes) (length bs) (omega arith);
       same = ap (λ v. commandAs v bs) e
           ∙ same-command _ c refl (num-le 2 (c .origin) (s .origin)) (num-le serialBytes (c .serial) (s .serial))
           (num-le 2 (c .a) (s .a)) (num-le 2 (c .b) (s .b));
@@ -170,12 +175,20 @@ module _ (n : ℕ) (low : n < 256) (bs : List ℕ) (h : Bytes bs) (e : getD bs 0
             rw (size, w .0)
             (record {
               formed = formed ∙ y;
-              sized = record { verb = low; origin = omega arith; serial = omega arith; a = omega arith; b = omega arith };
+              sized = record {
+                verb = low;
+                origin = omega arith;
+                serial = omega arith;
+                a = omega arith;
+                b =
+                    omega arith;
+              };
               bytes = written ∙ ap (λ (x : ℕ). x ∷ getD bs 1 0 ∷ []) (sym e) ∙ sym first;
               some = omega arith;
               fits = w .1;
             })
-        | inr z ↦ absurd (some (ap (within (length bs)) (cond-false {A = ℕ} (leb (getD bs 1 0) 31) 2 0 z) ∙ within-all 0 (length bs) (omega arith)))
+        | inr z ↦ absurd (some (ap (within (length bs)) (cond-false {A = ℕ} (leb (getD bs 1 0) 31) 2 0 z)
+            ∙ within-all 0 (length bs) (omega arith)))
       ]
 
 rewritten-as : (v : Option Verb) (bs : List ℕ) → Bytes bs → verbOf (getD bs 0 0) ≡ v
@@ -188,13 +201,21 @@ rewritten-as (Some Noop) bs h e some =
     rw (w .0)
     (record {
       formed = refl;
-      sized = record { verb = omega arith; origin = omega arith; serial = omega arith; a = omega arith; b = omega arith };
+      sized = record {
+        verb = omega arith;
+        origin = omega arith;
+        serial = omega arith;
+        a = omega arith;
+        b =
+            omega arith;
+      };
       bytes = ap (λ (x : ℕ). x ∷ []) (sym (kind-of (getD bs 0 0) (Some Noop) e)) ∙ sym (part-more 0 0 bs (w .1));
       some = omega arith;
       fits = w .1;
     })
 rewritten-as (Some Add) bs h e some = two-bytes 1 (omega arith) bs h (kind-of (getD bs 0 0) (Some Add) e) refl refl some
-rewritten-as (Some Remove) bs h e some = two-bytes 2 (omega arith) bs h (kind-of (getD bs 0 0) (Some Remove) e) refl refl some
+rewritten-as (Some Remove) bs h e some = two-bytes 2 (omega arith) bs h
+    (kind-of (getD bs 0 0) (Some Remove) e) refl refl some
 rewritten-as (Some Change) bs h e some =
     let w = within-some (7 + serialBytes) (length bs) some in
     let c = commandAs (Some Change) bs in

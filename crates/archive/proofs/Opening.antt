@@ -18,7 +18,8 @@ use Rattle.bytes.specs.Areas.{part}
 use Rattle.bytes.specs.Numbers.{num}
 use Rattle.bytes.proofs.Numbers.{Bytes}
 use Rattle.command.specs.Members.{validChain}
-use Rattle.archive.specs.Reading.{fault, hasMark, hasChain, hasCount, orCount, scanned, scanAll, membersOf, startOf, countAt, bodyOf}
+use Rattle.archive.specs.Reading.{fault, hasMark, hasChain, hasCount, orCount, scanned, scanAll, membersOf, startOf}
+use Rattle.archive.specs.Reading.{countAt, bodyOf}
 use Rattle.archive.proofs.Files.{fault-by}
 
 pub file-bytes : (f : List ℕ) → ((i : ℕ) → Fits w8 (getD f i 0)) → Bytes f
@@ -65,7 +66,8 @@ module _ (f : List ℕ) (long : 8 ≤ length f) where
         cut-scan = ap (scanAll (countAt f)) (body-cut f)
 
         pub fault-entry : (i : ℕ)
-            → scanAll (countAt f) (take (countAt f - startOf f) (drop (startOf f) f)) .broken ≡ Some i → fault f ≡ Some i
+            → scanAll (countAt f) (take (countAt f - startOf f) (drop (startOf f) f)) .broken ≡ Some i
+            → fault f ≡ Some i
         fault-entry i e =
             rest-fault ∙ ap (orCount f (scanned f .commands)) (ap (λ s. s .broken) (sym cut-scan) ∙ e)
 

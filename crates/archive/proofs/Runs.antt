@@ -22,10 +22,12 @@ use Rattle.archive.specs.declared.writing.OpenArchive.{OpenArchive}
 use Rattle.archive.specs.declared.writing.Refusal.{Refusal}
 use Rattle.archive.specs.declared.writing.Refusal.the-variants.{IllFormed, InvalidChain, NoSpace, Full}
 use Rattle.archive.specs.Layout.{header, entry, entries, layout, Archive}
-use Rattle.archive.specs.Writing.{left, hasRoom, beginRefusal, begun, addRefusal, grown, sealRefusal, sealed, Run, began, added, Sealed}
+use Rattle.archive.specs.Writing.{left, hasRoom, beginRefusal, begun, addRefusal, grown, sealRefusal, sealed, Run}
+use Rattle.archive.specs.Writing.{began, added, Sealed}
 use Rattle.archive.proofs.Scans.{some-none}
 
--- the front of the area is header and entries, the archive tells where they end and how many there are, the count has room
+-- the front of the area is header and entries, the archive tells where they end and how many there are, the count has
+-- room
 pub record Holds (area : List ℕ) (o : OpenArchive) (ms : List ℕ) (cs : List Command) : Type 0 where
   pub chain : validChain ms ≡ true
   pub formed : All (λ c. wellFormed c ≡ true) cs
@@ -78,9 +80,11 @@ grown-holds old o ms cs c h s e =
       formed = all-push (λ d. wellFormed d ≡ true) cs c (h .formed) (p .0);
       sized = all-push Sized cs c (h .sized) s;
       few = omega arith;
-      end = ap (λ (n : ℕ). n + length (entry c)) (h .end) ∙ sym (length-append (header ms ++ entries cs) (entry c)) ∙ ap length bytes;
+      end = ap (λ (n : ℕ). n + length (entry c)) (h .end) ∙ sym (length-append (header ms ++ entries cs) (entry c))
+          ∙ ap length bytes;
       count = omega arith;
-      content = take-over old (o .at) (entry c) (omega arith) ∙ ap (λ (xs : List ℕ). xs ++ entry c) (h .content) ∙ bytes;
+      content = take-over old (o .at) (entry c) (omega arith) ∙ ap (λ (xs : List ℕ). xs ++ entry c) (h .content)
+          ∙ bytes;
       room = omega arith;
     }
 

@@ -114,7 +114,8 @@ entries-step i bs false q b f next e =
       sized = (r .sized, w .sized);
     }
 
-entries-scan : (k i : ℕ) (bs : List ℕ) → length bs ≤ k → Bytes bs → scan k i bs .broken ≡ None → Whole bs (scan k i bs .commands)
+entries-scan : (k i : ℕ) (bs : List ℕ) → length bs ≤ k → Bytes bs → scan k i bs .broken ≡ None
+    → Whole bs (scan k i bs .commands)
 unfolding scan
 entries-scan k i [] h b e = record { bytes = refl; formed = tt; sized = tt }
 entries-scan zero i (x ∷ bs) h b e = absurd (omega arith)

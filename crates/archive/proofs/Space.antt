@@ -35,13 +35,16 @@ entry-short (Some Add) c = omega arith
 entry-short (Some Remove) c = omega arith
 entry-short (Some Change) c = omega arith
 
-add-full : (area : List ℕ) (o : OpenArchive) (c : Command) → wellFormed c ≡ true → most ≤ o .count → addRefusal area o c ≡ Some Full
+add-full : (area : List ℕ) (o : OpenArchive) (c : Command) → wellFormed c ≡ true → most ≤ o .count
+    → addRefusal area o c ≡ Some Full
 add-full area o c w l =
-    cond-true (wellFormed c) _ (Some IllFormed) w ∙ cond-false (ltb (o .count) most) _ (Some Full) (le-ltb (o .count) most l)
+    cond-true (wellFormed c) _ (Some IllFormed) w
+    ∙ cond-false (ltb (o .count) most) _ (Some Full) (le-ltb (o .count) most l)
 
 adds : (cs : List Command) (area : List ℕ) (o : OpenArchive) → All (λ c. wellFormed c ≡ true) cs → o .count ≤ most
     → o .at + length cs * (7 + serialBytes) + 2 ≤ length area
-    → addsRefusal area o (o .count + 1) cs ≡ cond (leb (o .count + length cs) most) None (Some (refused (most + 1) Full))
+    → addsRefusal area o (o .count + 1) cs ≡ cond (leb (o .count + length cs) most) None
+    (Some (refused (most + 1) Full))
 unfolding addsRefusal
 adds [] area o h l space = sym (cond-true _ None _ (le-leb (o .count + 0) most (omega arith)))
 adds (c ∷ cs) area o h l space =

@@ -28,14 +28,16 @@ module _ (e : ℕ) (bs : List ℕ) where
   pub entry-none : (n : ℕ) → entryAt 1 e bs ≡ None → entryAt n e bs ≡ None
   entry-none zero h = refl
   entry-none (suc zero) h = h
-  entry-none (suc (suc n)) h = one-none (eqb (sizeOf bs) 0) (e - length bs, take (sizeOf bs) bs) (entryAt (suc n) e (rest bs)) h
+  entry-none (suc (suc n)) h = one-none (eqb (sizeOf bs) 0) (e - length bs, take (sizeOf bs) bs)
+      (entryAt (suc n) e (rest bs)) h
 
   one-some : (t : Bool) (x z : ℕ × List ℕ) (y : Option (ℕ × List ℕ)) → Some z ≡ cond t None (Some x) → cond t None y ≡ y
   one-some true x z y h = absurd (some-none h)
   one-some false x z y h = refl
 
   -- where there is a first entry, the others follow it
-  pub entry-more : (n : ℕ) (z : ℕ × List ℕ) → Some z ≡ entryAt 1 e bs → entryAt (suc (suc n)) e bs ≡ entryAt (suc n) e (rest bs)
+  pub entry-more : (n : ℕ) (z : ℕ × List ℕ) → Some z ≡ entryAt 1 e bs
+      → entryAt (suc (suc n)) e bs ≡ entryAt (suc n) e (rest bs)
   entry-more n z h = one-some (eqb (sizeOf bs) 0) (e - length bs, take (sizeOf bs) bs) z (entryAt (suc n) e (rest bs)) h
 
 -- the entry after m others
@@ -45,7 +47,8 @@ told e cs m =
     (Some (e - length (entries cs) + length (entries (take m cs)), entry (getD cs m (commandAs None []))))
     None
 
-walked : (m : ℕ) (cs : List Command) (e : ℕ) → All (λ c. wellFormed c ≡ true) cs → All Sized cs → length (entries cs) ≤ e
+walked : (m : ℕ) (cs : List Command) (e : ℕ) → All (λ c. wellFormed c ≡ true) cs → All Sized cs
+    → length (entries cs) ≤ e
     → entryAt (suc m) e (entries cs) ≡ told e cs m
 unfolding told
 walked zero [] e h s l = refl
@@ -68,7 +71,8 @@ walked (suc m) (c ∷ cs) e h s l =
     let long = length-append (entry c) (entries cs) in
     let taken = length-append (entry c) (entries (take m cs)) in
     let left : rest bs ≡ entries cs = drop-at (entry c) (entries cs) (sizeOf bs) (sym size) in
-    let offset : e - length (entries cs) + length (entries (take m cs)) ≡ e - length bs + length (entry c ++ entries (take m cs)) =
+    let offset : e - length (entries cs) + length (entries (take m cs)) ≡ e - length bs + length
+    (entry c ++ entries (take m cs)) =
     omega arith in
     let test : ltb m (length cs) ≡ ltb (suc m) (suc (length cs)) = sym (leb·suc-suc (suc m) (length cs)) in
     let make : Bool → ℕ → Option (ℕ × List ℕ) = λ b i. cond b (Some (i, entry (getD cs m (commandAs None [])))) None in
@@ -82,7 +86,8 @@ entry-of f ms cs zero a = refl
 entry-of f ms cs (suc m) a =
     let end = length (header ms) + length (entries cs) in
     let before : suc m - 1 ≡ m = omega arith in
-    let offset : end - length (entries cs) + length (entries (take m cs)) ≡ length (header ms) + length (entries (take m cs)) =
+    let offset : end - length (entries cs) + length (entries (take m cs)) ≡ length (header ms) + length
+    (entries (take m cs)) =
     omega arith in
     let test : ltb m (length cs) ≡ (ltb 0 (suc m) && leb (suc m) (length cs)) =
     ap (λ b. b && leb (suc m) (length cs)) (sym (lt-ltb 0 (suc m) (omega arith))) in

@@ -24,10 +24,12 @@ pub at-some : (n : ℕ) (x : Option Refusal) (later : Option ListRefusal) (r : R
     → atEntry n x later ≡ Some (refused n r)
 at-some n x later r e = ap (λ y. atEntry n y later) e
 
-pub left-none : (x : Option Refusal) (area written exit : List ℕ) → exit ≡ left x area written → x ≡ None → exit ≡ written
+pub left-none : (x : Option Refusal) (area written exit : List ℕ) → exit ≡ left x area written → x ≡ None
+    → exit ≡ written
 left-none x area written exit h e = h ∙ ap (λ y. left y area written) e
 
-pub left-some : (x : Option Refusal) (area written exit : List ℕ) (r : Refusal) → exit ≡ left x area written → x ≡ Some r
+pub left-some : (x : Option Refusal) (area written exit : List ℕ) (r : Refusal) → exit ≡ left x area written
+    → x ≡ Some r
     → exit ≡ area
 left-some x area written exit r h e = h ∙ ap (λ y. left y area written) e
 
@@ -53,7 +55,8 @@ module _ (area : List ℕ) (o : OpenArchive) (n : ℕ) (cs : List Command) (i : 
         ≡ addsRefusal (over area (o .at) (entry (getD cs i d))) (grown o (getD cs i d)) (n + 1) (drop (i + 1) cs)
     adds-more e = step ∙ at-none n (addRefusal area o (getD cs i d)) _ e
 
-    pub adds-stop : (r : Refusal) → addRefusal area o (getD cs i d) ≡ Some r → addsRefusal area o n (drop i cs) ≡ Some (refused n r)
+    pub adds-stop : (r : Refusal) → addRefusal area o (getD cs i d) ≡ Some r
+        → addsRefusal area o n (drop i cs) ≡ Some (refused n r)
     adds-stop r e = step ∙ at-some n (addRefusal area o (getD cs i d)) _ r e
 
   pub adds-end : length cs ≤ i → addsRefusal area o n (drop i cs) ≡ None

@@ -76,7 +76,8 @@ impl OpenArchive {
         Ok(OpenArchive { at, count: 0 })
     }
 
-    /// Appends an entry. Refusals 5 (ill formed), 16 (65,535 entries) and 14 (no space); the archive is then handed back.
+    /// Appends an entry. Refusals 5 (ill formed), 16 (65,535 entries) and 14 (no space); the archive is then handed
+    /// back.
     pub fn add(
         self,
         area: &mut [u8],

@@ -4,7 +4,8 @@ use mathlib.Core.List.{List, [], _∷_, _++_, append-assoc}
 use Prim.Native.Nat.{ℕ, suc, _+_, _-_, _<_, _≤_}
 use native.Mathlib.Omega.{arith}
 use lib.ListN.{length, take, drop, getD}
-use Rattle.std.proofs.shelf.Lists.{length-append, length-take, length-take-le, length-drop, drop-more, drop-drop, take-at, drop-at, take-append-le, drop-append-le, take-append-drop, take-take}
+use Rattle.std.proofs.shelf.Lists.{length-append, length-take, length-take-le, length-drop, drop-more, drop-drop}
+use Rattle.std.proofs.shelf.Lists.{take-at, drop-at, take-append-le, drop-append-le, take-append-drop, take-take}
 use Rattle.bytes.specs.Areas.{part, over}
 
 -- a part by its first byte
@@ -57,7 +58,8 @@ module _ (area : List ℕ) (i : ℕ) (bs : List ℕ) (fits : i + length bs ≤ l
       ∙ ap (λ (k : ℕ). take i area ++ ((bs ++ cs) ++ drop k area)) e
 
 pub part-two : (i : ℕ) (bs : List ℕ) → i + 2 ≤ length bs → part i 2 bs ≡ getD bs i 0 ∷ getD bs (i + 1) 0 ∷ []
-part-two i bs h = part-more i 1 bs (omega arith) ∙ ap (λ (xs : List ℕ). getD bs i 0 ∷ xs) (part-more (i + 1) 0 bs (omega arith))
+part-two i bs h = part-more i 1 bs (omega arith)
+    ∙ ap (λ (xs : List ℕ). getD bs i 0 ∷ xs) (part-more (i + 1) 0 bs (omega arith))
 
 pub part-four : (i : ℕ) (bs : List ℕ) → i + 4 ≤ length bs
     → part i 4 bs ≡ getD bs i 0 ∷ getD bs (i + 1) 0 ∷ getD bs (i + 2) 0 ∷ getD bs (i + 3) 0 ∷ []

@@ -12,7 +12,8 @@ use mathlib.Core.Logic.{_⊎_, inl, inr}
 use Rattle.command.specs.Sets.{has, withDirector}
 use Rattle.command.specs.Members.{Membership, validChain, allIn, isMember, added, removed, without}
 use Rattle.command.proofs.Bits.{has-joined}
-use Rattle.command.proofs.Lists.{valid-parts, valid-from, different-push, different-without, all-in-has, all-in-more, all-in-push, all-in-without, length-without, length-without-le}
+use Rattle.command.proofs.Lists.{valid-parts, valid-from, different-push, different-without, all-in-has, all-in-more}
+use Rattle.command.proofs.Lists.{all-in-push, all-in-without, length-without, length-without-le}
 
 pub added-is : (m : Membership) (a : ℕ) → length (m .members) < 7 → has (m .ever) a ≡ false
     → added a m ≡ record { members = m .members ++ (a ∷ []); ever = withDirector (m .ever) a }
@@ -29,7 +30,8 @@ module _ (ms : List ℕ) (s a : ℕ) (valid : validChain ms ≡ true) (known : a
       let v = valid-parts ms valid in
       let e = length-push ms a in
       let new : isMember a ms ≡ false =
-      elim (cases-bool (isMember a ms)) [ inl y ↦ absurd (both-ways (has s a) h (all-in-has s a ms known y)) | inr n ↦ n ] in
+      elim (cases-bool (isMember a ms))
+      [ inl y ↦ absurd (both-ways (has s a) h (all-in-has s a ms known y)) | inr n ↦ n ] in
       valid-from (ms ++ (a ∷ []))
       (record { some = omega arith; few = omega arith; different = different-push a ms low new (v .different) })
 

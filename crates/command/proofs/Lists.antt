@@ -7,7 +7,8 @@ use Prim.Native.Nat.{ℕ, zero, suc, _+_, _*_, _<_, _≤_}
 use native.Mathlib.Omega.{arith}
 use lib.ListN.{length}
 use lib.Dec.{eqb, leb, ltb}
-use Rattle.std.proofs.shelf.Tests.{and-parts, and-from, not-true, not-from-false, eqb-true, or-cases, both-ways, leb-true, le-leb, or-parts, ne-eqb, eqb-false}
+use Rattle.std.proofs.shelf.Tests.{and-parts, and-from, not-true, not-from-false, eqb-true, or-cases, both-ways}
+use Rattle.std.proofs.shelf.Tests.{leb-true, le-leb, or-parts, ne-eqb, eqb-false}
 use Rattle.command.specs.Sets.{has, withDirector, withAll, setOf}
 use Rattle.command.specs.Members.{isMember, differentDirectors, validChain, allIn, without}
 use Rattle.command.proofs.Bits.{has-more, has-joined}
@@ -62,7 +63,12 @@ different-push a (m ∷ ms) l h d =
     let p = head-parts m ms d in
     let q = or-parts (eqb m a) (isMember a ms) h in
     head-from m (ms ++ (a ∷ []))
-    (record { low = p .low; new = member-push m a ms (p .new) (ne-eqb a m (λ e. eqb-false m a (q .0) (sym e))); rest = different-push a ms l (q .1) (p .rest) })
+    (record {
+      low = p .low;
+      new = member-push m a ms (p .new) (ne-eqb a m (λ e. eqb-false m a (q .0) (sym e)));
+      rest =
+          different-push a ms l (q .1) (p .rest);
+    })
 
 -- in the set are all of a list, so each of them
 pub all-in-has : (s d : ℕ) (ms : List ℕ) → allIn s ms ≡ true → isMember d ms ≡ true → has s d ≡ true
@@ -76,7 +82,8 @@ pub all-in-more : (s a : ℕ) (ms : List ℕ) → allIn s ms ≡ true → allIn 
 all-in-more s a [] h = refl
 all-in-more s a (m ∷ ms) h =
     let p = and-parts (has s m) (allIn s ms) h in
-    and-from (has (withDirector s a) m) (allIn (withDirector s a) ms) (has-more s a m (p .0)) (all-in-more s a ms (p .1))
+    and-from (has (withDirector s a) m) (allIn (withDirector s a) ms) (has-more s a m (p .0))
+    (all-in-more s a ms (p .1))
 
 pub all-in-push : (s a : ℕ) (ms : List ℕ) → allIn s ms ≡ true → has s a ≡ true → allIn s (ms ++ (a ∷ [])) ≡ true
 all-in-push s a [] h k = and-from (has s a) true k refl
@@ -144,7 +151,8 @@ length-without a (m ∷ ms) h =
     go : (b : Bool) → eqb m a ≡ b → length ms ≤ length (without a ms) + 1 → Head m ms
         → suc (length ms) ≤ length (cond (not b) (m ∷ without a ms) (without a ms)) + 1
     go true e r p =
-        let same : length (without a ms) ≡ length ms = without-none a ms (ap (λ (n : ℕ). isMember n ms) (sym (eqb-true m a e)) ∙ p .new) in
+        let same : length (without a ms) ≡ length ms = without-none a ms
+        (ap (λ (n : ℕ). isMember n ms) (sym (eqb-true m a e)) ∙ p .new) in
         omega arith
     go false e r p = omega arith
 

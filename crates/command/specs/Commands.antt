@@ -20,7 +20,8 @@ pub record Sized (c : Command) : Type 0 where
   pub a : c .a < 256 ^ 2
   pub b : c .b < 256 ^ 2
 
--- the kind of change that a verb's number stands for: 0 the no-op, 1 add, 2 remove, 16 and above a change for the machine
+-- the kind of change that a verb's number stands for: 0 the no-op, 1 add, 2 remove, 16 and above a change for the
+-- machine
 abbrev pub verbOf : ℕ → Option Verb
 verbOf n =
     cond (eqb n 0) (Some Noop)

@@ -1,4 +1,5 @@
-//! The chain as a value that cannot be wrong: 1 to 7 different directors, each of them among those who were ever members.
+//! The chain as a value that cannot be wrong: 1 to 7 different directors, each of them among those who were ever
+//! members.
 
 ghost use Prim.Native.Nat.{_≤_};
 ghost use Rattle.command.specs.Members.{validChain, allIn};

@@ -47,13 +47,15 @@ pub record Examples : Type 0 where
   pub slot-10 : length (chainFor (founded three) third 10 .members) ≡ 3
   pub slot-11 : length (chainFor (founded three) third 11 .members) ≡ 2
   -- backend 5 is set to 100, to 40, and drained; weight 1,001 and backend 64 are denied
-  pub pool : answers poolRule poolStart (change 16 1 5 100 ∷ change 16 2 5 40 ∷ change 17 3 5 0 ∷ []) ≡ 0 ∷ 100 ∷ 40 ∷ []
+  pub pool : answers poolRule poolStart (change 16 1 5 100 ∷ change 16 2 5 40 ∷ change 17 3 5 0 ∷ [])
+      ≡ 0 ∷ 100 ∷ 40 ∷ []
   pub pool-denied : answers poolRule poolStart (change 16 1 5 1001 ∷ change 16 2 64 1 ∷ []) ≡ 65535 ∷ 65535 ∷ []
   -- host 1 takes 512 addresses, host 2 is denied one, host 1 gives 12 back and holds 500
   pub ledger : answers ledgerRule ledgerStart (change 16 1 1 512 ∷ change 16 2 2 1 ∷ change 17 3 1 12 ∷ [])
       ≡ 512 ∷ 65535 ∷ 500 ∷ []
   -- frozen, serial 8 is held back; after the thaw as serial 9 it is an old one
-  pub frozen : answers stackRule stackStart (change 48 7 0 0 ∷ change 16 8 5 100 ∷ change 49 9 0 0 ∷ change 16 8 5 100 ∷ [])
+  pub frozen : answers stackRule stackStart
+      (change 48 7 0 0 ∷ change 16 8 5 100 ∷ change 49 9 0 0 ∷ change 16 8 5 100 ∷ [])
       ≡ 0 ∷ 65532 ∷ 0 ∷ 65534 ∷ []
   -- chain 0 and no entries
   pub empty-file : layout (0 ∷ []) [] ≡ 0x48 ∷ 0x50 ∷ 0x41 ∷ 0x31 ∷ 1 ∷ 0 ∷ 0 ∷ 0 ∷ []

@@ -114,7 +114,9 @@ entry-back c h = by (form c (h .well))
     by (remove p q) = ap readEntry p ∙ remove-back (c .a) (omega (arith, h .sized .a)) ∙ ap Some q
     by (change p) =
         ap readEntry p ∙
-        change-back (c .verb) (c .origin) (c .serial) (c .a) (c .b) (omega (arith, h .sized .verb)) (omega (arith, h .sized .origin)) (omega (arith, h .sized .serial)) (omega (arith, h .sized .a)) (omega (arith, h .sized .b))
+        change-back (c .verb) (c .origin) (c .serial) (c .a) (c .b) (omega (arith, h .sized .verb))
+        (omega (arith, h .sized .origin)) (omega (arith, h .sized .serial)) (omega (arith, h .sized .a))
+        (omega (arith, h .sized .b))
 
 line-lacks : (w ns : List ℕ) → lacks 10 w ≡ true → Small ns → lacks 10 (w ++ spaced ns) ≡ true
 line-lacks w ns h s = lacks-append 10 w (spaced ns) h (spaced-lacks ns s)

@@ -20,7 +20,8 @@ use Rattle.archive.specs.Readers.{Exact}
 use Rattle.listing.specs.declared.faults.Fault.{Fault}
 use Rattle.listing.specs.declared.faults.Fault.the-variants.{InvalidChain, IllFormed, Unreadable}
 use Rattle.listing.specs.Law.{Listable}
-use Rattle.listing.specs.Reading.{readEntry, readChain, before, judged, entriesFrom, listed, chained, readLines, readText, Listed}
+use Rattle.listing.specs.Reading.{readEntry, readChain, before, judged, entriesFrom, listed, chained, readLines}
+use Rattle.listing.specs.Reading.{readText, Listed}
 use Rattle.listing.specs.Writing.{textOf}
 use Rattle.listing.specs.Pieces.{lines}
 use Rattle.listing.proofs.ReadBack.{text-back}
@@ -46,11 +47,13 @@ judged-formed n (Some c) rest cs h e = go (wellFormed c) refl rest h e
     go : (b : Bool) → wellFormed c ≡ b → (r : Result (List Command) Fault)
         → ((ds : List Command) → r ≡ Ok ds → All (λ d. wellFormed d ≡ true) ds)
         → cond b (before c r) (Err (IllFormed n)) ≡ Ok cs → All (λ d. wellFormed d ≡ true) cs
-    go true w (Ok ds) h e = let same : c ∷ ds ≡ cs = cc in mathlib.Core.Path.subst (All (λ d. wellFormed d ≡ true)) same (w, h ds refl)
+    go true w (Ok ds) h e = let same : c ∷ ds ≡ cs = cc in mathlib.Core.Path.subst
+        (All (λ d. wellFormed d ≡ true)) same (w, h ds refl)
     go true w (Err f) h e = absurd (err-ok e)
     go false w r h e = absurd (err-ok e)
 
-entries-formed : (ls : List (List ℕ)) (n : ℕ) (cs : List Command) → entriesFrom n ls ≡ Ok cs → All (λ c. wellFormed c ≡ true) cs
+entries-formed : (ls : List (List ℕ)) (n : ℕ) (cs : List Command) → entriesFrom n ls ≡ Ok cs
+    → All (λ c. wellFormed c ≡ true) cs
 entries-formed [] n cs e = let same : [] ≡ cs = cc in mathlib.Core.Path.subst (All (λ d. wellFormed d ≡ true)) same tt
 entries-formed (l ∷ ls) n cs e =
     judged-formed n (readEntry l) (entriesFrom (n + 1) ls) cs (λ ds q. entries-formed ls (n + 1) ds q) e
@@ -71,7 +74,8 @@ chained-sound : (o : Option (List ℕ)) (ls : List (List ℕ)) (l : Listed) → 
 chained-sound None ls l e = absurd (err-ok e)
 chained-sound (Some ms) ls l e = go (validChain ms) refl e
   where
-    go : (b : Bool) → validChain ms ≡ b → cond b (listed (founded ms) (entriesFrom 2 ls)) (Err InvalidChain) ≡ Ok l → Sound l
+    go : (b : Bool) → validChain ms ≡ b → cond b (listed (founded ms) (entriesFrom 2 ls)) (Err InvalidChain) ≡ Ok l
+        → Sound l
     go true v e = listed-sound (founded ms) (entriesFrom 2 ls) l v (λ ds q. entries-formed ls 2 ds q) e
     go false v e = absurd (err-ok e)
 
@@ -89,28 +93,33 @@ listables [] w s = tt
 listables (c ∷ cs) w s = (record { well = w .0; sized = s .0 }, listables cs (w .1) (s .1))
 
 -- the text of a whole file tells a list whose archive is the file
-pub told : (f text : List ℕ) → Exact f → fault f ≡ None → text ≡ textOf (membersOf f) (scanned f .commands) → Told f text
+pub told : (f text : List ℕ) → Exact f → fault f ≡ None → text ≡ textOf (membersOf f) (scanned f .commands)
+    → Told f text
 told f text x whole e =
     let a = x .only whole in
     record {
       whole = whole;
       text-is = e;
       list = record { chain = founded (membersOf f); commands = scanned f .commands };
-      read = ap readText e ∙ text-back (membersOf f) (scanned f .commands) (a .chain) (listables (scanned f .commands) (a .formed) (a .sized));
+      read = ap readText e ∙ text-back (membersOf f) (scanned f .commands) (a .chain)
+          (listables (scanned f .commands) (a .formed) (a .sized));
       again = sym (a .laid);
     }
 
 -- why commands made no file is why their list was not sealed
-pub unsealed : (text : List ℕ) (l : Listed) → readText text ≡ Ok l → (x : SealFault) → Unfiled (l .commands) x → Unsealed text x
+pub unsealed : (text : List ℕ) (l : Listed) → readText text ≡ Ok l → (x : SealFault) → Unfiled (l .commands) x
+    → Unsealed text x
 unsealed text l e (NoList f) h = absurd h
 unsealed text l e (Entry r) h = (l, e, h)
 unsealed text l e NoMemory h = tt
 
 -- a refusal where there was space enough is that of the 65,536th entry
-pub overfull : (cs : List Command) (e : ListRefusal) → Some e ≡ cond (leb (length cs) most) None (Some (refused (most + 1) Full))
+pub overfull : (cs : List Command) (e : ListRefusal)
+    → Some e ≡ cond (leb (length cs) most) None (Some (refused (most + 1) Full))
     → Unfiled cs (Entry e)
 overfull cs e h = go (leb (length cs) most) refl h
   where
-    go : (b : Bool) → leb (length cs) most ≡ b → Some e ≡ cond b None (Some (refused (most + 1) Full)) → Unfiled cs (Entry e)
+    go : (b : Bool) → leb (length cs) most ≡ b → Some e ≡ cond b None (Some (refused (most + 1) Full))
+        → Unfiled cs (Entry e)
     go true q h = absurd (some-none h)
     go false q h = (leb-false (length cs) most q, cc)

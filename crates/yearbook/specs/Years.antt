@@ -47,7 +47,8 @@ Unsealed text (NoList e) = Err e ≡ cond (isMemory e) (Err Memory) (readText te
 Unsealed text (Entry e) = (l : Listed) × (readText text ≡ Ok l) × Unfiled (l .commands) (Entry e)
 Unsealed text NoMemory = Unit {0}
 
--- the text of a file: that of the chain and the commands which the file holds; it tells a list whose archive is the file
+-- the text of a file: that of the chain and the commands which the file holds; it tells a list whose archive is the
+-- file
 pub record Told (file text : List ℕ) : Type 0 where
   pub whole : fault file ≡ None
   pub text-is : text ≡ textOf (membersOf file) (scanned file .commands)

@@ -18,4 +18,5 @@ tells true x y = refl
 tells false x y = refl
 
 pub returns : need.returns
-returns c = c .is-ok .ensures .value ∙ same (c .new .result) ∙ ap isOk (c .new .ensures) ∙ tells (validChain (c .args .members .now)) _ _
+returns c = c .is-ok .ensures .value ∙ same (c .new .result) ∙ ap isOk (c .new .ensures)
+    ∙ tells (validChain (c .args .members .now)) _ _

@@ -38,7 +38,8 @@ returns-in-Err-add c =
         begun-list (c .args .area .now) (c .args .members .now) cs (c .begin .last .area) (c .in-Ok .open) (ok .0)
             (c .in-Ok .ensures tt .writes) (ok .1)
             ∙ sym (c .loop-i .inv .1)
-            ∙ adds-stop (c .loop-i .area) (c .loop-i .open) (i + 1) cs i blank (omega arith) (e .0) (e .1) ∙ ap Some same,
+            ∙ adds-stop (c .loop-i .area) (c .loop-i .open) (i + 1) cs i blank (omega arith) (e .0) (e .1)
+            ∙ ap Some same,
         c .strike .ensures ∙ ap (λ (n : ℕ). replicate n 0) long
             ∙ sym (cond-false _ (c .args .area .now) _ (ne-eqb (i + 1) 0 struck)),
       );
@@ -85,8 +86,10 @@ returns c =
     let law = c .in-Ok-seal .ensures tt .run (c .args .members .now) (take (c .loop-i .i) cs) (c .loop-i .inv .0) in
     record {
       wrote = (
-        begun-list area (c .args .members .now) cs (c .begin .last .area) (c .in-Ok .open) (ok .0) (c .in-Ok .ensures tt .writes) (ok .1)
-            ∙ sym (c .loop-i .inv .1) ∙ adds-end (c .loop-i .area) (c .loop-i .open) (c .loop-i .i + 1) cs (c .loop-i .i) (omega arith),
+        begun-list area (c .args .members .now) cs (c .begin .last .area) (c .in-Ok .open) (ok .0)
+            (c .in-Ok .ensures tt .writes) (ok .1)
+            ∙ sym (c .loop-i .inv .1)
+            ∙ adds-end (c .loop-i .area) (c .loop-i .open) (c .loop-i .i + 1) cs (c .loop-i .i) (omega arith),
         rw (end .1, ← all) (law .file),
       );
       space = enough-space;

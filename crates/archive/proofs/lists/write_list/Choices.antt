@@ -9,5 +9,6 @@ use Rattle.archive.proofs.lists.write_list.Given as given
 abbrev pub Inv-loop-i : given.InvT-loop-i
 Inv-loop-i l =
     Run (l .area) (l .open) (l .members) (take (l .i) (l .commands))
-    × (addsRefusal (l .area) (l .open) (l .i + 1) (drop (l .i) (l .commands)) ≡ addsRefusal (l .entry .area) (l .entry .open) 1 (l .commands))
+    × (addsRefusal (l .area) (l .open) (l .i + 1) (drop (l .i) (l .commands)) ≡ addsRefusal (l .entry .area)
+    (l .entry .open) 1 (l .commands))
     × (length (l .area) ≡ length (l .entry .area))

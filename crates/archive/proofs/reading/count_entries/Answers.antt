@@ -14,7 +14,8 @@ returns-then-size-eq0 c =
     let bs = c .loop-rest .rest .now in
     let ne = eqb-false (length bs) 0 (sym (c .loop-rest-test .ensures tt)) in
     sym (c .loop-rest .inv .1)
-    ∙ ap (λ f. f .broken) (scan-stop (c .args .end) bs (omega arith) (sym (c .size-of-size .ensures) ∙ c .if-size-eq0 .taken))
+    ∙ ap (λ f. f .broken)
+    (scan-stop (c .args .end) bs (omega arith) (sym (c .size-of-size .ensures) ∙ c .if-size-eq0 .taken))
     ∙ ap Some (sym (c .saturating-sub .ensures))
 
 pub loop-rest-again : need.loop-rest-again

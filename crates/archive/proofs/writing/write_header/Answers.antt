@@ -10,5 +10,7 @@ returns c =
     let area = c .args .area .now in
     let ms = c .args .members .now in
     let n = length ms in
-    let two = then-over area _ (c .write-u8 .last .area) 0 4 mark (n ∷ []) (omega arith) (c .write-bytes .ensures) (omega arith) (c .write-u8 .ensures) in
-    then-over area (c .write-u8 .last .area) (c .write-bytes-2 .last .area) 0 5 (mark ++ (n ∷ [])) ms (omega arith) two (omega arith) (c .write-bytes-2 .ensures)
+    let two = then-over area _ (c .write-u8 .last .area) 0 4 mark (n ∷ []) (omega arith) (c .write-bytes .ensures)
+    (omega arith) (c .write-u8 .ensures) in
+    then-over area (c .write-u8 .last .area) (c .write-bytes-2 .last .area) 0 5 (mark ++ (n ∷ [])) ms
+    (omega arith) two (omega arith) (c .write-bytes-2 .ensures)

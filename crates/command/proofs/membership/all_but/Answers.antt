@@ -29,8 +29,12 @@ loop-m-again c =
     elim (c .if-m-a .came) [
       | then-m-a w ↦
           let put = take-more-set (c .loop-m .places) (c .loop-m .count) (getD ms i 0) (omega arith) in
-          let more = step a ms i (omega arith) false (ne-eqb _ _ (w .if-m-a .taken)) in
-          (omega arith, (cc), ap length (w .places-is) ∙ length-set (c .loop-m .places) (c .loop-m .count) (getD ms i 0) ∙ seven)
+          let more = step a ms i (omega arith) false (ne-eqb _ _ (w .if-m-a .taken)) in (
+            omega arith,
+            (cc),
+            ap length (w .places-is)
+                ∙ length-set (c .loop-m .places) (c .loop-m .count) (getD ms i 0) ∙ seven,
+          )
       | else-m-a w ↦
           let more = step a ms i (omega arith) true (eq-eqb _ _ (w .if-m-a .left)) in
           let same = append-nil (without a (take i ms)) in
@@ -41,5 +45,6 @@ pub returns : need.returns
 returns c =
     record {
       within = omega arith;
-      kept = c .loop-m .inv .1 ∙ ap (λ (xs : List ℕ). without (c .args .a) xs) (take-all (c .loop-m .m-index) (c .args .members .now) (omega arith));
+      kept = c .loop-m .inv .1 ∙ ap (λ (xs : List ℕ). without (c .args .a) xs)
+          (take-all (c .loop-m .m-index) (c .args .members .now) (omega arith));
     }

@@ -26,7 +26,8 @@ loop-command-again c =
     let line = ending (lineOf (c .in-Some .command)) in
     let left = entriesText (scanAll e (rest bs) .commands) in
     ap₂ (λ (xs ys : List ℕ). xs ++ ys) (c .in-Continue-write-entry .ensures tt)
-    (ap₂ (λ (n : ℕ) (xs : List ℕ). entriesText (scanAll n xs .commands)) (c .next-command .ensures .same) (c .next-command .ensures .after))
+    (ap₂ (λ (n : ℕ) (xs : List ℕ). entriesText (scanAll n xs .commands)) (c .next-command .ensures .same)
+    (c .next-command .ensures .after))
     ∙ append-assoc out line left
     ∙ ap (λ (xs : List ℕ). out ++ xs) (sym (lines-more e bs (c .in-Some .command) (c .in-Some .ensures tt .answer)))
     ∙ c .loop-command .inv

@@ -23,7 +23,8 @@ returns c =
     let ms = c .args .members .now in
     let cs = c .args .commands .now in
     let law = c .in-Continue-sealed .ensures tt .wrote .1 in
-    let same : take (c .in-Continue-sealed .sealed .length) (c .write-list .last .area) ≡ vec-items (c .truncate .last .self) =
+    let same : take (c .in-Continue-sealed .sealed .length) (c .write-list .last .area) ≡ vec-items
+    (c .truncate .last .self) =
     sym (c .truncate .ensures .items
     ∙ ap₂ (λ (n : ℕ) (xs : List ℕ). take n xs) (c .length .ensures)
     (refilled-is (c .in-Continue-area .area) (c .write-list .last .area) (omega arith))) in
@@ -32,11 +33,13 @@ returns c =
 pub returns-in-Break-sealed : need.returns-in-Break-sealed
 returns-in-Break-sealed c =
     let p = err-from-errBy (c .from-residual-in-Break-sealed .result) (c .from-residual-in-Break-sealed .ensures .1) in
-    let space : spaceFor (length (c .args .members .now)) (length (c .args .commands .now)) ≤ length (c .as-mut-slice .result .now) =
+    let space : spaceFor (length (c .args .members .now)) (length (c .args .commands .now)) ≤ length
+    (c .as-mut-slice .result .now) =
     let n = space-is _ (c .in-Some .space) _ (c .in-Some .ensures tt) in
     let m = c .in-Continue-area .ensures tt .made in
     omega arith in
     rw (p .1, p .2)
     (overfull (c .args .commands .now) _
     (sym (c .in-Break-sealed .ensures tt .wrote .0)
-    ∙ c .in-Break-sealed .ensures tt .space _ (c .args .members .now) (c .args .commands .now) space (c .pre .chain) (c .pre .formed)))
+    ∙ c .in-Break-sealed .ensures tt .space _ (c .args .members .now) (c .args .commands .now) space (c .pre .chain)
+    (c .pre .formed)))

@@ -16,8 +16,13 @@ use Rattle.yearbook.proofs.seals.seal_text.Needs as need
 
 pub file-of-requires : need.file-of-requires
 file-of-requires c κs =
-    let sound = read-sound (c .args .text .now) (listOf (c .in-Continue-list .list)) (sym (c .in-Continue-list .ensures tt .answer)) in
-    record { chain = ap validChain (c .members .ensures) ∙ sound .chain; formed = rw (c .as-slice .ensures .value) (sound .formed) }
+    let sound = read-sound (c .args .text .now) (listOf (c .in-Continue-list .list))
+    (sym (c .in-Continue-list .ensures tt .answer)) in
+    record {
+      chain = ap validChain (c .members .ensures)
+          ∙ sound .chain;
+      formed = rw (c .as-slice .ensures .value) (sound .formed);
+    }
 
 pub returns : need.returns
 returns c =
@@ -26,7 +31,8 @@ returns c =
     record {
       list = l;
       told = sym (c .in-Continue-list .ensures tt .answer);
-      file = subst₂ (λ (ms : List ℕ) (cs : List Command). Archive file ms cs) (c .members .ensures) (c .as-slice .ensures .value)
+      file = subst₂ (λ (ms : List ℕ) (cs : List Command). Archive file ms cs) (c .members .ensures)
+          (c .as-slice .ensures .value)
           (c .in-Continue-file .ensures tt);
       entries = c .len .ensures ∙ c .in-Continue-list .list .commands .ok .0;
       chain = c .after-all-chain .ensures
@@ -44,4 +50,5 @@ returns-in-Break-file c =
     let h : Unfiled (vec-items (c .in-Continue-list .list .commands)) (c .in-Break-file .field-0 .0) =
     rw (c .as-slice .ensures .value) at (c .in-Break-file .ensures tt) in
     rw (p .1, p .2)
-    (unsealed (c .args .text .now) (listOf (c .in-Continue-list .list)) (sym (c .in-Continue-list .ensures tt .answer)) _ h)
+    (unsealed (c .args .text .now) (listOf (c .in-Continue-list .list))
+    (sym (c .in-Continue-list .ensures tt .answer)) _ h)

@@ -9,4 +9,5 @@ use Rattle.archive.proofs.reading.Reader.entry.Given as given
 abbrev pub Inv-loop-i : given.InvT-loop-i
 Inv-loop-i l =
     (l .entries .end ≡ l .self .end)
-    × (entryAt (l .n + 1 - l .-i) (l .self .end) (now (l .entries .rest)) ≡ entryAt (l .n) (l .self .end) (now (l .self .body)))
+    × (entryAt (l .n + 1 - l .-i) (l .self .end) (now (l .entries .rest)) ≡ entryAt (l .n) (l .self .end)
+    (now (l .self .body)))

@@ -23,7 +23,8 @@ pub returns-then-start-end : need.returns-then-start-end
 returns-then-start-end c =
     let f = c .args .file .now in
     record {
-      opens = fault-far f (c .if-file-lt-SHORTEST .left) (sym (c .if-not-has-mark .ensures tt)) (c .if-start-end .taken);
+      opens = fault-far f (c .if-file-lt-SHORTEST .left) (sym (c .if-not-has-mark .ensures tt))
+          (c .if-start-end .taken);
       exact = exact f (file-bytes f (c .typed .file));
     }
 
@@ -31,7 +32,8 @@ pub returns-then-not-is-chain : need.returns-then-not-is-chain
 returns-then-not-is-chain c =
     let f = c .args .file .now in
     record {
-      opens = fault-invalid f (c .if-file-lt-SHORTEST .left) (sym (c .if-not-has-mark .ensures tt)) (c .if-start-end .left)
+      opens = fault-invalid f (c .if-file-lt-SHORTEST .left) (sym (c .if-not-has-mark .ensures tt))
+          (c .if-start-end .left)
           (c .is-chain .result) (c .is-chain .ensures) (c .if-not-is-chain .taken);
       exact = exact f (file-bytes f (c .typed .file));
     }
@@ -42,7 +44,8 @@ returns-in-Break-count c =
     let p = err-from-errBy (c .from-residual .result) (c .from-residual .ensures .1) in
     rw (p .1)
     (record {
-      opens = fault-entry f (c .if-file-lt-SHORTEST .left) (sym (c .if-not-has-mark .ensures tt)) (c .if-start-end .left)
+      opens = fault-entry f (c .if-file-lt-SHORTEST .left) (sym (c .if-not-has-mark .ensures tt))
+          (c .if-start-end .left)
           (c .is-chain .result) (c .is-chain .ensures) (c .if-not-is-chain .left) _ (c .in-Break-count .ensures tt)
           ∙ ap (λ x. Some (x .offset)) (sym (p .2));
       exact = exact f (file-bytes f (c .typed .file));
@@ -52,8 +55,10 @@ pub returns-then-read-u16-count : need.returns-then-read-u16-count
 returns-then-read-u16-count c =
     let f = c .args .file .now in
     record {
-      opens = fault-count f (c .if-file-lt-SHORTEST .left) (sym (c .if-not-has-mark .ensures tt)) (c .if-start-end .left)
-          (c .is-chain .result) (c .is-chain .ensures) (c .if-not-is-chain .left) (c .in-Continue-count .count) (c .in-Continue-count .ensures tt)
+      opens = fault-count f (c .if-file-lt-SHORTEST .left) (sym (c .if-not-has-mark .ensures tt))
+          (c .if-start-end .left)
+          (c .is-chain .result) (c .is-chain .ensures) (c .if-not-is-chain .left) (c .in-Continue-count .count)
+          (c .in-Continue-count .ensures tt)
           (c .read-u16 .result) (c .read-u16 .ensures) (c .if-read-u16-count .taken);
       exact = exact f (file-bytes f (c .typed .file));
     }
@@ -61,8 +66,10 @@ returns-then-read-u16-count c =
 pub returns : need.returns
 returns c =
     let f = c .args .file .now in
-    let whole = fault-none f (c .if-file-lt-SHORTEST .left) (sym (c .if-not-has-mark .ensures tt)) (c .if-start-end .left)
-    (c .is-chain .result) (c .is-chain .ensures) (c .if-not-is-chain .left) (c .in-Continue-count .count) (c .in-Continue-count .ensures tt)
+    let whole = fault-none f (c .if-file-lt-SHORTEST .left) (sym (c .if-not-has-mark .ensures tt))
+    (c .if-start-end .left)
+    (c .is-chain .result) (c .is-chain .ensures) (c .if-not-is-chain .left) (c .in-Continue-count .count)
+    (c .in-Continue-count .ensures tt)
     (c .read-u16 .result) (c .read-u16 .ensures) (c .if-read-u16-count .left) in
     let count = count-is f (c .if-file-lt-SHORTEST .left) (sym (c .if-not-has-mark .ensures tt)) (c .if-start-end .left)
     (c .is-chain .result) (c .is-chain .ensures) (c .if-not-is-chain .left) (c .in-Continue-count .count)

@@ -17,7 +17,8 @@ returns c =
     let ms = c .args .members .now in
     let n : 5 + length ms ≡ length (header ms) = omega arith in
     let taken : beginRefusal area ms ≡ None =
-    begin-taken area ms (5 + length ms) (sym (c .if-not-is-chain .ensures tt)) n (sym (c .if-not-has-room .ensures tt)) in
+    begin-taken area ms (5 + length ms) (sym (c .if-not-is-chain .ensures tt)) n
+    (sym (c .if-not-has-room .ensures tt)) in
     let made : record { at = 5 + length ms; count = 0 } ≡ begun ms =
     ap {B = OpenArchive} (λ (k : ℕ). record { at = k; count = 0 }) n in
     let back : Refusal → Refusal = λ e. e in

@@ -12,7 +12,8 @@ pub returns-then-not-has-room : need.returns-then-not-has-room
 returns-then-not-has-room c =
     let area = c .args .area .now in
     let o = c .args .self in
-    let refused : sealRefusal area o ≡ Some NoSpace = cond-false _ None (Some NoSpace) (sym (c .if-not-has-room .ensures tt)) in
+    let refused : sealRefusal area o ≡ Some NoSpace = cond-false _ None (Some NoSpace)
+    (sym (c .if-not-has-room .ensures tt)) in
     let written = ap (λ x. left x area (over area (o .at) (le 2 (o .count)))) (sym refused) in
     record {
       answer = ap (λ x. answer (λ e. (o, e)) x (sealed o)) (sym refused);

@@ -5,4 +5,5 @@ use Rattle.command.proofs.chains.Chain.after_all.Given as given
 
 abbrev pub Inv-loop-command : given.InvT-loop-command
 Inv-loop-command l =
-    afterAll (membership (l .chain)) (drop (l .command-index) (l .settled)) ≡ afterAll (membership (l .self)) (l .settled)
+    afterAll (membership (l .chain)) (drop (l .command-index) (l .settled)) ≡ afterAll (membership (l .self))
+    (l .settled)

@@ -13,4 +13,5 @@ returns c =
     let cs = c .args .settled .now in
     let me = membership (c .args .self .now) in
     let n : c .min-count .result - 0 ≡ min (length cs) (c .args .slot - 8) = omega arith in
-    c .after-all .ensures ∙ ap (λ (k : ℕ). afterAll me (take k cs)) n ∙ ap (afterAll me) (take-min cs (c .args .slot - 8))
+    c .after-all .ensures ∙ ap (λ (k : ℕ). afterAll me (take k cs)) n
+    ∙ ap (afterAll me) (take-min cs (c .args .slot - 8))

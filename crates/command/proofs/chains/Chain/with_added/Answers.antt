@@ -19,8 +19,13 @@ ghost-result c =
     let n : length ms ≡ me .count = length-take-le (me .count) (me .places) (omega arith) in (
       omega arith,
       (
-        rw e (added-valid ms (me .ever .bits) a (me .valid) (me .known) (c .pre) (omega arith) (sym (c .if-contains .ensures tt))),
-        (rw e (added-known ms (me .ever .bits) a (me .valid) (me .known) (c .with .result .bits) (c .with .ensures) (c .pre)), tt),
+        rw e (added-valid ms (me .ever .bits) a (me .valid) (me .known) (c .pre) (omega arith)
+            (sym (c .if-contains .ensures tt))),
+        (
+          rw e (added-known ms (me .ever .bits) a (me .valid) (me .known) (c .with .result .bits) (c .with .ensures)
+              (c .pre)),
+          tt,
+        ),
       ),
     )
 
