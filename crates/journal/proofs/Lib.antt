@@ -1,0 +1,4 @@
+pub mod Grows
+pub mod Newest
+pub mod Ballots
+pub mod Laws

@@ -1,4 +1,5 @@
--- The window rule: an element for each of the eight slots p + 1 to p + 8, where p slots are settled, kept in eight places
+-- The window rule: an element for each of the eight slots p + 1 to p + 8, where p slots are settled, kept in eight
+-- places
 -- by slot mod 8. It is the same for every kind of element.
 use mathlib.Core.Bool.{Bool, _&&_}
 use mathlib.Core.List.{List}

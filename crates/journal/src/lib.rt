@@ -11,7 +11,12 @@ ghost use mathlib.Core.List.{List, _++_};
 ghost use mathlib.Core.Path.{_≡_};
 use command::Command;
 pub use writes::Entry;
+pub use writes::EntryDebug;
+pub use writes::EntryPartialEq;
 pub use writes::Write;
+pub use writes::WriteDebug;
+pub use writes::WritePartialEq;
+pub use writes::make_write;
 
 /// The most slots that a journal can have.
 pub const MOST_SLOTS: u32 = 60_000;
