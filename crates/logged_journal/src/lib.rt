@@ -11,8 +11,6 @@ pub use logged::LoggedJournalJournal;
 mod tests {
     use crate::logs::Log;
     use journal::Write;
-    use journal::WriteDebug;
-    use journal::WritePartialEq;
     use std::test::*;
 
     #[test]
@@ -24,6 +22,9 @@ mod tests {
         log.keep(Write::Promise { ballot: 3 });
         check(!log.complete)?;
         check(log.writes.len() == 2)?;
-        check_eq(log.writes[1], Write::Promise { ballot: 2 })
+        match log.writes[1] {
+            Write::Promise { ballot } => check_eq(ballot, 2),
+            _ => check(false),
+        }
     }
 }
