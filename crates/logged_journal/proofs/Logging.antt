@@ -2,23 +2,23 @@
 use mathlib.Core.Bool.{Bool, true, false, cond}
 use mathlib.Core.List.{List, [], _∷_, _++_}
 use mathlib.Core.Path.{_≡_, sym, ap, subst, _∙_}
-use Prim.Native.Nat.{ℕ, _+_, _≤_, _<_}
+use Prim.Native.Nat.{ℕ, _≤_, _<_}
 use native.Mathlib.Omega.{arith}
 use lib.Dec.{leb}
 use lib.ListN.{length, take, length-append}
 use Rattle.std.specs.Of.Vec.{vec-items}
 use Rattle.std.proofs.shelf.Lists.{append-nil, length-take, take-all, take-append-le}
-use Rattle.std.proofs.shelf.Tests.{le-leb, lt-leb, leb-true, cases-lt}
+use Rattle.std.proofs.shelf.Tests.{le-leb, lt-leb, leb-true}
 use Rattle.journal.specs.Meaning.{Meaning, taken, wrote}
 use Rattle.journal.specs.declared.writes.Write.{Write}
 use Rattle.logged_journal.specs.declared.logs.Log.{Log}
 use Rattle.logged_journal.specs.Logs.{Shows, Keeps}
 
--- a list of which there is less than the room is shown whole
-pub short : (room : ℕ) (ws : List Write) → length (take room ws) < room → length ws < room
+-- a log that is not full, or is, tells how long the list is that it shows
+short : (room : ℕ) (ws : List Write) → length (take room ws) < room → length ws < room
 short room ws h = omega (arith, length-take room ws)
 
-pub long : (room : ℕ) (ws : List Write) → room ≤ length (take room ws) → room ≤ length ws
+long : (room : ℕ) (ws : List Write) → room ≤ length (take room ws) → room ≤ length ws
 long room ws h = omega (arith, length-take room ws)
 
 -- a log that holds nothing shows that nothing was written
@@ -29,7 +29,7 @@ shows-none log e t =
       all = t ∙ sym (le-leb 0 (log .room) (omega arith));
     }
 
--- with room for one more, it is kept
+-- with room for one more, it is kept, and the log stays complete
 pub first-kept : (room : ℕ) (ws log next : List Write) (w : Write) → next ≡ log ++ (w ∷ []) → log ≡ take room ws
     → length log < room → next ≡ take room (ws ++ (w ∷ []))
 first-kept room ws log next w p e h =
@@ -61,6 +61,7 @@ pub exact : (room : ℕ) (ws log : List Write) (complete : Bool) → log ≡ tak
     → complete ≡ leb (length ws) room → complete ≡ true → ws ≡ log
 exact room ws log complete e c t = sym (e ∙ take-all room ws (leb-true (length ws) room (sym c ∙ t)))
 
+-- what a write adds to the list, by its answer
 wrote-taken : (w : Write) (m : Meaning) → taken w m ≡ true → wrote w m ≡ w ∷ []
 unfolding wrote
 wrote-taken w m t = ap (λ b. cond b (w ∷ []) []) t

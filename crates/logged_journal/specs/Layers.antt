@@ -12,6 +12,10 @@ use Rattle.logged_journal.specs.Logs.{Shows}
 abbrev pub logOf : {J : Type 0} → LoggedJournal J → List Write
 logOf j = vec-items (j .log .writes)
 
+-- whether these are all that were taken
+abbrev pub isComplete : {J : Type 0} → LoggedJournal J → Bool
+isComplete j = j .log .complete
+
 -- the lists that the log shows: one alone, the log itself, while it is complete; then all those that begin with it and
 -- are longer than its room
 abbrev pub logBehind : {J : Type 0} → LoggedJournal J → List Write → Type 0

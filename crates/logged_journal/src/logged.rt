@@ -1,7 +1,7 @@
 //! A journal that keeps a list of its writes.
 
 ghost use Rattle.journal.specs.declared.writes.Write.{Write};
-ghost use Rattle.logged_journal.specs.Layers.{logOf, logBehind, Over, Exact};
+ghost use Rattle.logged_journal.specs.Layers.{logOf, isComplete, logBehind, Over, Exact};
 ghost use Rattle.std.specs.Results.{Cases};
 ghost use mathlib.Core.Path.{_≡_};
 use crate::logs::Log;
@@ -42,7 +42,7 @@ impl<J: Journal> LoggedJournal<J> {
 
     /// Whether all writes that were taken are in the log: then what lies behind the journal is exactly the log.
     pub fn is_complete(&self) -> bool
-        ensures answer { λ r. ⌜ r ≡ now (self .entry) .log .complete ⌝ }
+        ensures answer { λ r. ⌜ r ≡ isComplete (now (self .entry)) ⌝ }
         ensures exact { λ r. ⌜ Exact (now (self .entry)) r ⌝ }
     {
         self.log.complete

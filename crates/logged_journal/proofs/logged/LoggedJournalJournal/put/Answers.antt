@@ -20,6 +20,7 @@ returns g c =
       answer = told .answer;
       after = told .after;
       behind =
-          shows-taken (c .args .self .now .log) (c .keep .last .self) (Put (c .args .slot) (c .args .ballot) (c .args .command .now))
+          shows-taken (c .args .self .now .log) (c .keep .last .self)
+          (Put (c .args .slot) (c .args .ballot) (c .args .command .now))
           (g .J·Journal .meaning (c .args .self .now .lower)) (told .answer) (c .keep .ensures);
     }

@@ -1,7 +1,6 @@
-use mathlib.Core.Path.{sym}
+use mathlib.Core.Path.{_≡_, sym}
 use native.Mathlib.Omega.{arith}
 use Prim.Native.Nat.{_<_, _≤_}
-use mathlib.Core.Path.{_≡_}
 use Rattle.journal.specs.Meaning.{fresh, settledCount}
 use Rattle.journal.specs.declared.writes.Write.the-variants.{Settle}
 use Rattle.table_journal.specs.Tables.{tableMeaning}
@@ -14,7 +13,8 @@ returns-then-count-self c =
     let m = tableMeaning (c .args .self .now) in
     let full : m .capacity ≤ settledCount m = omega arith in
     let w =
-    written-untaken (fresh (m .capacity)) m (Settle (c .args .command .now)) (settle-full (c .args .command .now) m full) in
+    written-untaken (fresh (m .capacity)) m (Settle (c .args .command .now))
+    (settle-full (c .args .command .now) m full) in
     record { answer = w .answer; after = w .after; behind = w .behind }
 
 pub returns-then-not-is-well-formed : need.returns-then-not-is-well-formed
