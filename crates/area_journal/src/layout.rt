@@ -80,7 +80,8 @@ pub(crate) fn count_in(area: &[u8]) -> u32
 // The bytes of place i.
 pub(crate) fn place_in(area: &[u8], i: usize) -> &[u8]
     requires { ⌜ i < 8 ⌝ ∗ ⌜ shortest ≤ length (now area) ⌝ }
-    ensures { λ r. ⌜ now r ≡ placeIn (now (area .entry)) i ⌝ }
+    ensures bytes { λ r. ⌜ now r ≡ placeIn (now (area .entry)) i ⌝ }
+    ensures size { λ r. ⌜ length (now r) ≡ placeBytes ⌝ }
 {
     let at = place_at(i);
     &area[at..at + PLACE_BYTES]
@@ -89,7 +90,8 @@ pub(crate) fn place_in(area: &[u8], i: usize) -> &[u8]
 // The bytes of settled record i.
 pub(crate) fn record_in(area: &[u8], i: usize) -> &[u8]
     requires { ⌜ i < capacityOf (now area) ⌝ }
-    ensures { λ r. ⌜ now r ≡ recordIn (now (area .entry)) i ⌝ }
+    ensures bytes { λ r. ⌜ now r ≡ recordIn (now (area .entry)) i ⌝ }
+    ensures size { λ r. ⌜ length (now r) ≡ recordBytes ⌝ }
 {
     let at = record_at(i);
     &area[at..at + RECORD_BYTES]

@@ -1,7 +1,11 @@
 //! A journal in an area of bytes that is handed in with any content.
 
+mod areas;
+mod checking;
 mod faults;
+mod journals;
 mod layout;
 
+pub use areas::AreaJournal;
 pub use faults::OpenFault;
 pub use layout::SHORTEST;
