@@ -5,6 +5,7 @@ mod checking;
 mod faults;
 mod journals;
 mod layout;
+mod writing;
 
 pub use areas::AreaJournal;
 pub use faults::OpenFault;
