@@ -5,3 +5,6 @@ pub mod Meanings
 pub mod Writes
 pub mod Puts
 pub mod Settles
+pub mod Questions
+pub mod Histories
+pub mod Keeping

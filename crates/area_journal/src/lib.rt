@@ -1,6 +1,7 @@
 //! A journal in an area of bytes that is handed in with any content.
 
 mod areas;
+mod asking;
 mod checking;
 mod faults;
 mod journals;
@@ -9,4 +10,5 @@ mod writing;
 
 pub use areas::AreaJournal;
 pub use faults::OpenFault;
+pub use journals::AreaKept;
 pub use layout::SHORTEST;

@@ -27,9 +27,27 @@ use command::Command;
 use command::SERIAL_BYTES;
 use command::Serial;
 use command::write_serial;
+use journal::Write;
+
+// Makes a write if it is taken.
+pub(crate) fn write_in(area: &mut [u8], write: Write) -> bool
+    requires long { ⌜ shortest ≤ length (now area) ⌝ }
+    requires sound { ⌜ isSound (now area) ≡ true ⌝ }
+    ensures { λ r. ⌜ Does write (now (area .entry)) (now (area .exit)) r ⌝ }
+{
+    match write {
+        Write::Promise { ballot } => promise_in(area, ballot),
+        Write::Put {
+            slot,
+            ballot,
+            command,
+        } => put_in(area, slot, ballot, &command),
+        Write::Settle { command } => settle_in(area, &command),
+    }
+}
 
 // Promises a ballot that is not below the promised one.
-pub(crate) fn promise_in(area: &mut [u8], ballot: u32) -> bool
+fn promise_in(area: &mut [u8], ballot: u32) -> bool
     requires long { ⌜ shortest ≤ length (now area) ⌝ }
     requires sound { ⌜ isSound (now area) ≡ true ⌝ }
     ensures { λ r. ⌜ Does (Promise ballot) (now (area .entry)) (now (area .exit)) r ⌝ }
@@ -42,7 +60,7 @@ pub(crate) fn promise_in(area: &mut [u8], ballot: u32) -> bool
 }
 
 // Puts a command with the promised ballot into a slot of the window.
-pub(crate) fn put_in(area: &mut [u8], slot: u32, ballot: u32, command: &Command) -> bool
+fn put_in(area: &mut [u8], slot: u32, ballot: u32, command: &Command) -> bool
     requires long { ⌜ shortest ≤ length (now area) ⌝ }
     requires sound { ⌜ isSound (now area) ≡ true ⌝ }
     ensures { λ r. ⌜ Does (Put slot ballot (now (command .entry))) (now (area .entry)) (now (area .exit)) r ⌝ }
@@ -63,7 +81,7 @@ pub(crate) fn put_in(area: &mut [u8], slot: u32, ballot: u32, command: &Command)
 }
 
 // Settles a command in the next slot: its record, then the count, and last the slot's place is blanked.
-pub(crate) fn settle_in(area: &mut [u8], command: &Command) -> bool
+fn settle_in(area: &mut [u8], command: &Command) -> bool
     requires long { ⌜ shortest ≤ length (now area) ⌝ }
     requires sound { ⌜ isSound (now area) ≡ true ⌝ }
     ensures { λ r. ⌜ Does (Settle (now (command .entry))) (now (area .entry)) (now (area .exit)) r ⌝ }
