@@ -1,0 +1,10 @@
+pub mod Checks
+pub mod Parts
+pub mod Places
+pub mod Meanings
+pub mod Writes
+pub mod Puts
+pub mod Settles
+pub mod Questions
+pub mod Histories
+pub mod Keeping

@@ -1,0 +1,38 @@
+-- What a journal of the code holds, and what opening answers.
+use mathlib.Core.Bool.{Bool, true, _&&_}
+use mathlib.Core.List.{List, [], _∷_}
+use mathlib.Core.Path.{_≡_}
+use Prim.Native.Nat.{ℕ}
+use Rattle.std.specs.Of.Vec.{vec-items}
+use Rattle.std.specs.declared.option.Option.{Option}
+use Rattle.std.specs.declared.option.Option.the-variants.{Some, None}
+use Rattle.std.specs.declared.result.Result.{Result}
+use Rattle.std.specs.declared.result.Result.the-variants.{Ok, Err}
+use Rattle.std.specs.declared.vec.Vec.{Vec}
+use Rattle.std.specs.declared.alloc.Global.{Global}
+use Rattle.journal.specs.declared.writes.Write.{Write}
+use Rattle.journal.specs.Meaning.{Meaning, taken, step, replay}
+use Rattle.area_journal.specs.declared.areas.AreaJournal.{AreaJournal}
+use Rattle.area_journal.specs.declared.faults.OpenFault.{OpenFault}
+use Rattle.area_journal.specs.Opening.{fault}
+
+-- the bytes of a journal
+abbrev pub bytesOf : AreaJournal → List ℕ
+bytesOf j = vec-items (j .area)
+
+-- what opening answers: a journal of the same bytes exactly where there is no fault, else the bytes back with the first
+-- fault
+abbrev pub Opens : List ℕ → Result AreaJournal (Vec ℕ Global × OpenFault) → Type 0
+Opens area (Ok j) = (fault area ≡ None) × (bytesOf j ≡ area)
+Opens area (Err e) = (fault area ≡ Some (e .1)) × (vec-items (e .0) ≡ area)
+
+-- the writes of a list are all taken, one after another
+abbrev pub allTaken : Meaning → List Write → Bool
+allTaken m [] = true
+allTaken m (w ∷ ws) = taken w m && allTaken (step w m) ws
+
+-- a list of writes may lie behind a journal where some meaning takes them all and then is the journal's
+pub record Behind (present : Meaning) (ws : List Write) : Type 0 where
+  pub start : Meaning
+  pub all : allTaken start ws ≡ true
+  pub end : replay start ws ≡ present
