@@ -26,11 +26,13 @@ put-high : (t : Bool) (n b : ℕ) (c : Command) (e : Entry) (ws : List Write) �
 put-high true n b c e ws l h = let p = h .puts in let q = h .first in (omega arith, omega arith)
 put-high false n b c e ws l h = let p = h .puts in let q = h .first in (omega arith, omega arith)
 
-put-below : (t : Bool) (b : ℕ) (c : Command) (e : Entry) → e .ballot ≤ b → cond t (record { ballot = b; command = c }) e .ballot ≤ b
+put-below : (t : Bool) (b : ℕ) (c : Command) (e : Entry) → e .ballot ≤ b
+    → cond t (record { ballot = b; command = c }) e .ballot ≤ b
 put-below true b c e l = omega arith
 put-below false b c e l = l
 
-high : (ws : List Write) (m : Meaning) (n : ℕ) (e : Entry) → allTaken m ws ≡ true → e .ballot ≤ m .promised → High n e ws
+high : (ws : List Write) (m : Meaning) (n : ℕ) (e : Entry) → allTaken m ws ≡ true → e .ballot ≤ m .promised
+    → High n e ws
 unfolding taken after
 high [] m n e t l = record { puts = omega arith; first = omega arith }
 high (Promise b ∷ ws) m n e t l =
@@ -43,7 +45,8 @@ high (Put k b c ∷ ws) m n e t l =
     let p = put-parts k b c m (q .0) in
     let b-is = p .ballot in
     let below = put-below (eqb k n) b c e (omega arith) in
-    let h = high ws (after (Put k b c) m) n (cond (eqb k n) (record { ballot = b; command = c }) e) (q .1) (omega arith) in
+    let h = high ws (after (Put k b c) m) n (cond (eqb k n) (record { ballot = b; command = c }) e) (q .1)
+    (omega arith) in
     let r = put-high (eqb k n) n b c e ws (omega arith) h in
     record { puts = r .0; first = r .1 }
 high (Settle c ∷ ws) m n e t l =

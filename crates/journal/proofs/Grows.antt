@@ -19,7 +19,12 @@ pub record Leads (m m′ : Meaning) : Type 0 where
   pub settled : take (settledCount m) (m′ .settled) ≡ m .settled
 
 same : (m : Meaning) → Leads m m
-same m = record { promised = omega arith; count = omega arith; settled = take-all (settledCount m) (m .settled) (omega arith) }
+same m = record {
+  promised = omega arith;
+  count = omega arith;
+  settled = take-all (settledCount m) (m .settled)
+      (omega arith);
+}
 
 written : (w : Write) (m : Meaning) → taken w m ≡ true → Leads m (after w m)
 unfolding taken after
@@ -30,10 +35,20 @@ written (Promise b) m h =
       settled = take-all (settledCount m) (m .settled) (omega arith);
     }
 written (Put n b c) m h =
-    record { promised = omega arith; count = omega arith; settled = take-all (settledCount m) (m .settled) (omega arith) }
+    record {
+      promised = omega arith;
+      count = omega arith;
+      settled = take-all (settledCount m) (m .settled)
+          (omega arith);
+    }
 written (Settle c) m h =
     let l = length-append (m .settled) (c ∷ []) in
-    record { promised = omega arith; count = omega arith; settled = take-at (m .settled) (c ∷ []) (settledCount m) refl }
+    record {
+      promised = omega arith;
+      count = omega arith;
+      settled = take-at (m .settled) (c ∷ [])
+          (settledCount m) refl;
+    }
 
 stepped : (w : Write) (m : Meaning) → Leads m (step w m)
 unfolding step

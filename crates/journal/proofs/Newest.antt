@@ -68,11 +68,13 @@ kept (Put k b c) m e t h =
       told = λ n l u.
           elim (cases-eq k n) [
             | inl same ↦
-                ap (λ (i : ℕ). getD (set (m .places) (k % 8) (record { ballot = b; command = c })) (i % 8) blank) (sym same)
+                ap (λ (i : ℕ). getD (set (m .places) (k % 8) (record { ballot = b; command = c })) (i % 8) blank)
+                (sym same)
                 ∙ getD-set-same (m .places) (k % 8) (record { ballot = b; command = c }) blank (omega arith)
                 ∙ sym (cond-true (eqb k n) (record { ballot = b; command = c }) (e n) (eq-eqb k n same))
             | inr other ↦
-                getD-set-other (m .places) (k % 8) (n % 8) (record { ballot = b; command = c }) blank (apart n k (settledCount m) l u low high other)
+                getD-set-other (m .places) (k % 8) (n % 8) (record { ballot = b; command = c }) blank
+                (apart n k (settledCount m) l u low high other)
                 ∙ h .told n l u
                 ∙ sym (cond-false (eqb k n) (record { ballot = b; command = c }) (e n) (ne-eqb k n other))
           ];
@@ -115,7 +117,8 @@ opened m e n h l =
           ∙ sym (h .past n (omega arith))
     ]
 
-newest-step : (w : Write) (ws : List Write) (n : ℕ) (x : Entry) → newest n x (w ∷ ws) ≡ newest n (newest n x (w ∷ [])) ws
+newest-step : (w : Write) (ws : List Write) (n : ℕ) (x : Entry)
+    → newest n x (w ∷ ws) ≡ newest n (newest n x (w ∷ [])) ws
 newest-step (Promise b) ws n x = refl
 newest-step (Put k b c) ws n x = refl
 newest-step (Settle c) ws n x = refl
@@ -139,6 +142,7 @@ new-holds : (c : ℕ) → Holds (fresh c) (λ _. blank)
 new-holds c =
     record { eight = refl; told = λ n l u. getD-replicate 8 (n % 8) blank blank (omega arith); past = λ n u. refl }
 
-pub open-newest : (c : ℕ) (ws : List Write) (n : ℕ) → allTaken (fresh c) ws ≡ true → settledCount (replay (fresh c) ws) < n
+pub open-newest : (c : ℕ) (ws : List Write) (n : ℕ) → allTaken (fresh c) ws ≡ true
+    → settledCount (replay (fresh c) ws) < n
     → openOf (replay (fresh c) ws) n ≡ newest n blank ws
 open-newest c ws n t l = replayed ws (fresh c) (λ _. blank) n t (new-holds c) l

@@ -42,7 +42,8 @@ pub record Journal-laws : Type 0 where
   -- and the settled list only grows
   pub settled-grows : (m : Meaning) (ws : List Write) → take (settledCount m) (replay m ws .settled) ≡ m .settled
   -- the open entry of a slot that is not settled is what the newest put into it left
-  pub newest-open : (c : ℕ) (ws : List Write) (n : ℕ) → allTaken (fresh c) ws ≡ true → settledCount (replay (fresh c) ws) < n
+  pub newest-open : (c : ℕ) (ws : List Write) (n : ℕ) → allTaken (fresh c) ws ≡ true
+      → settledCount (replay (fresh c) ws) < n
       → openOf (replay (fresh c) ws) n ≡ newest n blank ws
   -- no put into a slot has a higher ballot than the newest
   pub newest-highest : (c : ℕ) (ws : List Write) (n : ℕ) → allTaken (fresh c) ws ≡ true

@@ -14,7 +14,8 @@ returns-then-count-in-capacity-in c = sym (fault-count (c .args .area .now) (ome
 pub returns-in-Some : need.returns-in-Some
 returns-in-Some c =
     ap (λ n. Some (Broken n)) (c .place-at .ensures)
-    ∙ sym (fault-place (c .args .area .now) (omega arith) (omega arith) (c .in-Some .i) (c .in-Some .ensures tt .answer))
+    ∙ sym (fault-place (c .args .area .now) (omega arith) (omega arith) (c .in-Some .i)
+    (c .in-Some .ensures tt .answer))
 
 pub returns-in-Some-bad-record : need.returns-in-Some-bad-record
 returns-in-Some-bad-record c =
