@@ -16,6 +16,7 @@ use Rattle.bytes.specs.Areas.{part}
 use Rattle.bytes.specs.Numbers.{le, num}
 use Rattle.bytes.proofs.Numbers.{Bytes, num-le, le-num, num-fits}
 use Rattle.bytes.proofs.Areas.{part-more, part-two}
+use Rattle.bytes.proofs.Parts.{part-join, le-part, num-part}
 use Rattle.command.specs.declared.Command.{Command}
 use Rattle.command.specs.declared.Verb.{Verb}
 use Rattle.command.specs.declared.Verb.the-variants.{Noop, Add, Remove, Change}
@@ -132,28 +133,6 @@ pub record Rewritten (c : Command) (bs : List ℕ) (size : ℕ) : Type 0 where
   pub bytes : entry c ≡ take size bs
   pub some : 1 ≤ size
   pub fits : size ≤ length bs
-
--- two parts that follow each other
-pub part-join : (i n m : ℕ) (bs : List ℕ) → part i n bs ++ part (i + n) m bs ≡ part i (n + m) bs
-part-join i n m bs =
-    let l = drop i bs in
-    ap₂ (λ (xs ys : List ℕ). xs ++ ys) (sym (take-take n (n + m) l (omega arith)))
-    (ap (take m) (sym (drop-drop n i bs)) ∙ sym (drop-take n m l))
-    ∙ take-append-drop n (take (n + m) l)
-
-module _ (bs : List ℕ) (h : Bytes bs) (i n : ℕ) (l : i + n ≤ length bs) where
-  part-length : length (part i n bs) ≡ n
-  part-length = length-take-le n (drop i bs) (let d = length-drop i bs in omega arith)
-
-  part-bytes : Bytes (part i n bs)
-  part-bytes = all-take (λ b. b < 256) n (drop i bs) (all-drop (λ b. b < 256) i bs h)
-
-  -- the bytes of a number that was read are those that it was read from
-  pub le-part : le n (num (part i n bs)) ≡ part i n bs
-  le-part = ap (λ (k : ℕ). le k (num (part i n bs))) (sym part-length) ∙ le-num (part i n bs) part-bytes
-
-  num-part : num (part i n bs) < 256 ^ n
-  num-part = let f = num-fits (part i n bs) part-bytes in rw part-length at f
 
 -- an entry of two bytes, verb n and a director
 directed : ℕ → ℕ → Command

@@ -23,7 +23,7 @@ use Rattle.area_journal.specs.Reading.{meaningOf}
 use Rattle.area_journal.specs.Opening.{placeGood, placeIsGood, isSound}
 use Rattle.area_journal.specs.Writing.{written, takesPut, Does}
 use Rattle.area_journal.proofs.Checks.{Sound, sound-parts}
-use Rattle.area_journal.proofs.Parts.{part-over, part-below, part-above}
+use Rattle.bytes.proofs.Parts.{part-over, part-below, part-above}
 use Rattle.area_journal.proofs.Places.{Held, entry-read, entry-good}
 use Rattle.area_journal.proofs.Meanings.{same-counted, set-counted, capacity-same, taken-put, does}
 use Rattle.area_journal.proofs.Writes.{Left, good-place, place-good, record-same}

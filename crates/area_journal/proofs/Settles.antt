@@ -26,7 +26,7 @@ use Rattle.area_journal.specs.Reading.{meaningOf}
 use Rattle.area_journal.specs.Opening.{placeGood, placeIsGood, recordIsGood, isSound}
 use Rattle.area_journal.specs.Writing.{written, settledArea, takesSettle, Does}
 use Rattle.area_journal.proofs.Checks.{Sound, sound-parts}
-use Rattle.area_journal.proofs.Parts.{part-over, part-below, part-above}
+use Rattle.bytes.proofs.Parts.{part-over, part-below, part-above}
 use Rattle.area_journal.proofs.Places.{place-kept, blank-good, record-good, command-read}
 use Rattle.area_journal.proofs.Meanings.{same-counted, set-counted, more-counted, capacity-same}
 use Rattle.area_journal.proofs.Meanings.{taken-settle, does}

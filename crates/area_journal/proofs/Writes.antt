@@ -25,7 +25,7 @@ use Rattle.area_journal.specs.Reading.{meaningOf}
 use Rattle.area_journal.specs.Opening.{placeGood, recordGood, placeIsGood, recordIsGood}
 use Rattle.area_journal.specs.Writing.{written, settledArea}
 use Rattle.area_journal.proofs.Checks.{Sound}
-use Rattle.area_journal.proofs.Parts.{part-over, part-below, part-above}
+use Rattle.bytes.proofs.Parts.{part-over, part-below, part-above}
 use Rattle.area_journal.proofs.Places.{Held, place-kept, blank-good, record-good, command-read, entry-read, entry-good}
 use Rattle.area_journal.proofs.Meanings.{same-counted, set-counted, more-counted, capacity-same}
 

@@ -1,5 +1,6 @@
 //! A journal in bytes: opened, asked, written and released.
 
+ghost use Rattle.area_journal.specs.Exactness.{Exact};
 ghost use Rattle.area_journal.specs.Journals.{Opens, bytesOf, Behind};
 ghost use Rattle.area_journal.specs.Opening.{fault};
 ghost use Rattle.area_journal.specs.Reading.{meaningOf};
@@ -25,7 +26,8 @@ impl AreaJournal {
     /// Takes an area with any content as a journal, or hands it back with the first fault: refusal 12 where it has no
     /// space for a record, else 13 with the offset of the first part that is not in order. No byte is altered.
     pub fn open(area: Vec<u8>) -> Result<AreaJournal, (Vec<u8>, OpenFault)>
-        ensures { λ r. ⌜ Opens (vec-items area) r ⌝ }
+        ensures opens { λ r. ⌜ Opens (vec-items area) r ⌝ }
+        ensures exact { λ _. ⌜ Exact (vec-items area) ⌝ }
     {
         match fault_in(&area) {
             Some(fault) => Err((area, fault)),
