@@ -1,20 +1,19 @@
 -- One entry: what is written of a command is read again as that command, and what is read is written again the same.
-use mathlib.Core.Path.{_≡_, refl, sym, ap, ap₂, subst, _∙_}
-use mathlib.Core.Bool.{Bool, true, false, cond, _&&_}
+use mathlib.Core.Path.{_≡_, refl, sym, ap, subst, _∙_}
+use mathlib.Core.Bool.{Bool, true, cond, _&&_}
 use mathlib.Core.List.{List, [], _∷_, _++_}
-use Prim.Native.Nat.{ℕ, zero, suc, _+_, _-_, _^_, _<_, _≤_}
+use Prim.Native.Nat.{ℕ, _+_, _<_, _≤_}
 use native.Mathlib.Omega.{arith}
 use lib.Dec.{eqb, leb}
-use lib.ListN.{length, take, drop, getD}
+use lib.ListN.{length, take, getD}
 use Rattle.std.specs.declared.option.Option.{Option}
 use Rattle.std.specs.declared.option.Option.the-variants.{Some, None}
 use Rattle.std.proofs.shelf.Tests.{cond-true, cond-both, cases-bool, eqb-true, leb-true, le-leb, and-parts, cond-false}
-use Rattle.std.proofs.shelf.Elements.{all-getD, all-take, all-drop}
-use Rattle.std.proofs.shelf.Lists.{length-take-le, length-drop, take-take, drop-drop, drop-take, take-append-drop}
-use mathlib.Core.Logic.{_⊎_, inl, inr}
+use Rattle.std.proofs.shelf.Elements.{all-getD}
+use mathlib.Core.Logic.{inl, inr}
 use Rattle.bytes.specs.Areas.{part}
 use Rattle.bytes.specs.Numbers.{le, num}
-use Rattle.bytes.proofs.Numbers.{Bytes, num-le, le-num, num-fits}
+use Rattle.bytes.proofs.Numbers.{Bytes, num-le}
 use Rattle.bytes.proofs.Areas.{part-more, part-two}
 use Rattle.bytes.proofs.Parts.{part-join, le-part, num-part}
 use Rattle.command.specs.declared.Command.{Command}

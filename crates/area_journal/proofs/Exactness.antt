@@ -1,16 +1,14 @@
 -- An area is accepted exactly where it holds the layout of a meaning.
 use mathlib.Core.Path.{_≡_, refl, sym, ap, ap₂, subst, _∙_}
-use mathlib.Core.Bool.{Bool, true, false, cond, _&&_}
+use mathlib.Core.Bool.{true}
 use mathlib.Core.Logic.{_⊎_, inl, inr}
-use mathlib.Core.List.{List, [], _∷_, _++_, map}
-use Prim.Native.Nat.{ℕ, _+_, _-_, _^_, _%_, _<_, _≤_}
+use mathlib.Core.List.{List, [], _∷_, _++_}
+use Prim.Native.Nat.{ℕ, _+_, _<_, _≤_}
 use native.Mathlib.Omega.{arith}
-use lib.Dec.{eqb, leb, ltb}
+use lib.Dec.{eqb}
 use lib.ListN.{length, getD}
-use Rattle.std.specs.Iters.{counting}
 use Rattle.std.specs.shelf.Text.{sameBytes}
-use Rattle.std.specs.declared.option.Option.the-variants.{None}
-use Rattle.std.proofs.shelf.Counted.{length-map-counting, getD-map-counting, fill-by-all}
+use Rattle.std.proofs.shelf.Counted.{getD-map-counting}
 use Rattle.std.proofs.shelf.Elements.{all-getD}
 use Rattle.std.proofs.shelf.Equals.{sameBytes-decides}
 use Rattle.std.proofs.shelf.Lists.{take-all, append-assoc}
@@ -19,22 +17,21 @@ use Rattle.bytes.specs.Areas.{part}
 use Rattle.bytes.specs.Numbers.{le, num}
 use Rattle.bytes.proofs.Areas.{part-two}
 use Rattle.bytes.proofs.Parts.{part-join, part-length, part-bytes, le-part, num-part}
-use Rattle.bytes.proofs.Numbers.{Bytes, num-le}
-use Rattle.command.specs.declared.Command.{Command}
+use Rattle.bytes.proofs.Numbers.{Bytes}
 use Rattle.command.specs.Commands.{wellFormed, serialBytes, Sized}
 use Rattle.journal.specs.declared.writes.Entry.{Entry}
-use Rattle.journal.specs.Meaning.{Meaning, Within, settledCount, noop, blank}
+use Rattle.journal.specs.Meaning.{noop, blank}
 use Rattle.area_journal.specs.Layout.{placeAt, recordAt, placeBytes, recordBytes, commandBytes, entryBytes, blankBytes}
 use Rattle.area_journal.specs.Layout.{commandOf, slotOf, entryOf}
 use Rattle.area_journal.specs.Reading.{capacityOf, promisedOf, countOf, placeIn, recordIn, commandIn, entryIn}
 use Rattle.area_journal.specs.Reading.{meaningOf}
-use Rattle.area_journal.specs.Opening.{fault, recordGood, isHeld, placeGood, placeIsGood, recordIsGood}
-use Rattle.area_journal.specs.Exactness.{slotAt, placeLaid, Laid, Stored, Entered, Sensible, Exact}
-use Rattle.area_journal.proofs.Checks.{Sound, sound-parts, sound-from, none-sound, sound-none}
+use Rattle.area_journal.specs.Opening.{recordGood, isHeld, placeGood, recordIsGood}
+use Rattle.area_journal.specs.Exactness.{slotAt, placeLaid, Laid, Stored, Entered, Sensible}
+use Rattle.area_journal.proofs.Checks.{Sound, sound-from}
 use Rattle.area_journal.proofs.Meanings.{count-is}
-use Rattle.area_journal.proofs.Places.{Held, held-parts, blank-good, record-good, command-read, entry-read, entry-good}
+use Rattle.area_journal.proofs.Places.{held-parts}
 use Rattle.area_journal.proofs.Questions.{within}
-use Rattle.area_journal.proofs.Writes.{good-place, place-good, good-record}
+use Rattle.area_journal.proofs.Writes.{place-good}
 
 -- a command that was read from a record in order is written again the same
 module _ (bs : List ℕ) (h : Bytes bs) (l : length bs ≡ recordBytes) where

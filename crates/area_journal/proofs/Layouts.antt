@@ -1,25 +1,22 @@
 -- An area that holds the layout of a meaning is accepted, and means it.
-use mathlib.Core.Path.{_≡_, refl, sym, ap, ap₂, subst, _∙_}
-use mathlib.Core.Bool.{Bool, true, false, cond}
+use mathlib.Core.Path.{_≡_, refl, sym, ap, subst, _∙_}
+use mathlib.Core.Bool.{true}
 use mathlib.Core.Logic.{_⊎_, inl, inr}
-use mathlib.Core.List.{List, map}
-use Prim.Native.Nat.{ℕ, _+_, _-_, _^_, _%_, _<_, _≤_}
+use mathlib.Core.List.{List}
+use Prim.Native.Nat.{ℕ, _^_, _<_, _≤_}
 use native.Mathlib.Omega.{arith}
 use lib.Dec.{eqb}
-use lib.ListN.{length, getD}
-use Rattle.std.specs.Iters.{counting}
-use Rattle.std.specs.declared.option.Option.the-variants.{None}
+use lib.ListN.{getD}
 use Rattle.std.proofs.shelf.Counted.{fill-by-all}
 use Rattle.std.proofs.shelf.Tests.{ne-eqb, cond-false}
 use Rattle.bytes.specs.Numbers.{num}
 use Rattle.bytes.proofs.Numbers.{Bytes, num-le}
-use Rattle.command.specs.declared.Command.{Command}
 use Rattle.journal.specs.declared.writes.Entry.{Entry}
 use Rattle.journal.specs.Meaning.{Meaning, settledCount, noop, blank}
 use Rattle.area_journal.specs.Layout.{commandBytes, entryBytes, blankBytes, commandOf, entryOf}
-use Rattle.area_journal.specs.Reading.{capacityOf, promisedOf, countOf, commandIn, entryIn, meaningOf}
-use Rattle.area_journal.specs.Opening.{fault, placeGood}
-use Rattle.area_journal.specs.Exactness.{slotAt, placeLaid, Laid, Stored, Entered, Sensible, Exact}
+use Rattle.area_journal.specs.Reading.{promisedOf, countOf, commandIn, entryIn, meaningOf}
+use Rattle.area_journal.specs.Opening.{placeGood}
+use Rattle.area_journal.specs.Exactness.{slotAt, placeLaid, Laid, Entered, Sensible, Exact}
 use Rattle.area_journal.proofs.Checks.{Sound, sound-parts, sound-from, none-sound, sound-none}
 use Rattle.area_journal.proofs.Exactness.{laid, sensible}
 use Rattle.area_journal.proofs.Places.{blank-good, record-good, command-read, entry-read, entry-good}

@@ -1,26 +1,25 @@
 -- What a put that is taken leaves.
 use mathlib.Core.Path.{_≡_, refl, sym, ap, subst, _∙_}
-use mathlib.Core.Bool.{Bool, true, false, _&&_}
-use mathlib.Core.Logic.{_⊎_, inl, inr}
-use mathlib.Core.List.{List, [], _∷_, _++_, map}
-use Prim.Native.Nat.{ℕ, _+_, _*_, _^_, _%_, _<_, _≤_}
+use mathlib.Core.Bool.{true, _&&_}
+use mathlib.Core.Logic.{inl, inr}
+use mathlib.Core.List.{List, map}
+use Prim.Native.Nat.{ℕ, _+_, _^_, _%_, _<_, _≤_}
 use native.Mathlib.Omega.{arith}
 use lib.Dec.{eqb, leb, ltb}
-use lib.ListN.{length, set}
+use lib.ListN.{length}
 use Rattle.std.specs.Iters.{counting}
 use Rattle.std.proofs.shelf.Tests.{cases-eq, cases-lt, and-parts, eqb-true, leb-true, ltb-true}
 use Rattle.bytes.specs.Areas.{part, over}
-use Rattle.bytes.specs.Numbers.{le, num}
+use Rattle.bytes.specs.Numbers.{num}
 use Rattle.bytes.proofs.Areas.{length-over}
 use Rattle.command.specs.declared.Command.{Command}
 use Rattle.command.specs.Commands.{wellFormed, Sized}
-use Rattle.journal.specs.declared.writes.Entry.{Entry}
 use Rattle.journal.specs.declared.writes.Write.the-variants.{Put}
-use Rattle.journal.specs.Meaning.{Meaning, after}
+use Rattle.journal.specs.Meaning.{after}
 use Rattle.area_journal.specs.Layout.{placeAt, recordAt, placeBytes, recordBytes, entryBytes, commandOf, entryOf}
 use Rattle.area_journal.specs.Reading.{capacityOf, promisedOf, countOf, placeIn, recordIn, commandIn, entryIn}
 use Rattle.area_journal.specs.Reading.{meaningOf}
-use Rattle.area_journal.specs.Opening.{placeGood, placeIsGood, isSound}
+use Rattle.area_journal.specs.Opening.{placeIsGood, isSound}
 use Rattle.area_journal.specs.Writing.{written, takesPut, Does}
 use Rattle.area_journal.proofs.Checks.{Sound, sound-parts}
 use Rattle.bytes.proofs.Parts.{part-over, part-below, part-above}

@@ -1,5 +1,5 @@
 -- The areas that opening accepts are those that hold the layout of a meaning, and only of one.
-use mathlib.Core.Bool.{Bool, true, cond}
+use mathlib.Core.Bool.{true, cond}
 use mathlib.Core.List.{List}
 use mathlib.Core.Logic.{_⊎_}
 use mathlib.Core.Path.{_≡_}

@@ -1,6 +1,6 @@
 -- Parts of an area: what a write leaves in them, and the numbers that are read from them.
-use mathlib.Core.Path.{_≡_, refl, sym, ap, ap₂, _∙_}
-use mathlib.Core.List.{List, [], _∷_, _++_}
+use mathlib.Core.Path.{_≡_, sym, ap, ap₂, _∙_}
+use mathlib.Core.List.{List, _++_}
 use Prim.Native.Nat.{ℕ, _+_, _^_, _<_, _≤_}
 use mir.Val.{Fits}
 use mir.Syntax.{w8}

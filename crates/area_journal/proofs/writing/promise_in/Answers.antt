@@ -1,4 +1,4 @@
-use mathlib.Core.Path.{sym, _∙_}
+use mathlib.Core.Path.{_∙_}
 use native.Mathlib.Omega.{arith}
 use Rattle.journal.specs.declared.writes.Write.the-variants.{Promise}
 use Rattle.std.proofs.shelf.Tests.{lt-leb, le-leb}

@@ -1,4 +1,4 @@
-use mathlib.Core.List.{[], _∷_, _++_}
+use mathlib.Core.List.{_++_}
 use native.Mathlib.Omega.{arith}
 use Rattle.bytes.specs.Numbers.{le}
 use Rattle.area_journal.specs.Layout.{commandBytes}
