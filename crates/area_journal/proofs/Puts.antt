@@ -1,6 +1,6 @@
 -- What a put that is taken leaves.
 use mathlib.Core.Path.{_≡_, refl, sym, ap, subst, _∙_}
-use mathlib.Core.Bool.{true, _&&_}
+use mathlib.Core.Bool.{true, false, _&&_}
 use mathlib.Core.Logic.{inl, inr}
 use mathlib.Core.List.{List, map}
 use Prim.Native.Nat.{ℕ, _+_, _^_, _%_, _<_, _≤_}
@@ -24,7 +24,7 @@ use Rattle.area_journal.specs.Writing.{written, takesPut, Does}
 use Rattle.area_journal.proofs.Checks.{Sound, sound-parts}
 use Rattle.bytes.proofs.Parts.{part-over, part-below, part-above}
 use Rattle.area_journal.proofs.Places.{Held, entry-read, entry-good}
-use Rattle.area_journal.proofs.Meanings.{same-counted, set-counted, capacity-same, taken-put, does}
+use Rattle.area_journal.proofs.Meanings.{same-counted, set-counted, capacity-same, taken-put, does, does-not}
 use Rattle.area_journal.proofs.Writes.{Left, good-place, place-good, record-same}
 
 module _ (area : List ℕ) (s : Sound area) (n b : ℕ) (d : Command) (slot : n < 256 ^ 4) (ballot : b < 256 ^ 4)
@@ -141,3 +141,7 @@ did-put area exit n b i d sound slot ballot sized t at e =
     let same : exit ≡ written (Put n b d) area = e ∙ ap (λ (k : ℕ). over area k (entryBytes n b d)) at in
     does (Put n b d) area exit (taken-put area n b d ∙ t) same (subst Sound (sym same) (left .sound))
     (ap meaningOf same ∙ left .means)
+
+pub refused-put : (area : List ℕ) (n b : ℕ) (d : Command) → isSound area ≡ true → false ≡ takesPut area n b d
+    → Does (Put n b d) area area false
+refused-put area n b d sound t = does-not (Put n b d) area (taken-put area n b d ∙ sym t) sound
