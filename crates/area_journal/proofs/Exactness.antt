@@ -102,7 +102,8 @@ module _ (c l p i : ℕ) (bs : List ℕ) (h : Bytes bs) (size : length bs ≡ pl
             let most = k .within in
             let q = entry-same (k .good) in (
               q .1 ∙ ap (λ (x : ℕ). entryBytes x b d) slot
-                  ∙ sym (cond-false (eqb b 0) blankBytes (entryBytes (slotAt p i) b d) (ne-eqb b 0 (λ z. omega arith))),
+                  ∙ sym (cond-false (eqb b 0) blankBytes (entryBytes (slotAt p i) b d)
+                  (ne-eqb b 0 (λ z. omega arith))),
               inr (record { within = omega arith; some = some; most = k .most; command = q .0 }),
             )
       ]
@@ -137,7 +138,8 @@ module _ (area : List ℕ) (h : Bytes area) (s : Sound area) where
   placed i l =
       let long = s .long in
       let room : placeAt i + placeBytes ≤ length area = omega arith in
-      place-laid (capacityOf area) (promisedOf area) p i (placeIn area i) (part-bytes area h (placeAt i) placeBytes room)
+      place-laid (capacityOf area) (promisedOf area) p i (placeIn area i)
+      (part-bytes area h (placeAt i) placeBytes room)
       (part-length area h (placeAt i) placeBytes room) l (place-good area i (s .places i l))
 
   pub laid : Laid area (meaningOf area)

@@ -43,7 +43,8 @@ behind-does w area exit r d ws b =
     (behind-more w (meaningOf area) ws b)
 
 -- the bytes of a journal, opened again
-pub opened-again : (area : List ℕ) → fault area ≡ None → (x : Result AreaJournal (Vec ℕ Global × OpenFault)) → Opens area x
+pub opened-again : (area : List ℕ) → fault area ≡ None → (x : Result AreaJournal (Vec ℕ Global × OpenFault))
+    → Opens area x
     → Again (meaningOf area) x
 opened-again area sound (Ok j) o = ap meaningOf (o .1)
 opened-again area sound (Err e) o = some-none (sym (o .0) ∙ sound)

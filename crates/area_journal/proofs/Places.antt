@@ -31,7 +31,8 @@ command-read c s = λ i.
 
 pub record-good : (c : Command) → Sized c → wellFormed c ≡ true → recordGood (commandBytes c) ≡ true
 record-good c s h =
-    and-from (eqb 0 0) (wellFormed (commandOf (commandBytes c))) (eq-eqb 0 0 refl) (ap wellFormed (command-read c s) ∙ h)
+    and-from (eqb 0 0) (wellFormed (commandOf (commandBytes c))) (eq-eqb 0 0 refl)
+    (ap wellFormed (command-read c s) ∙ h)
 
 -- an entry that may stand in place i, by its slot, its ballot and whether its record is in order
 pub record Held (c promised p i n b : ℕ) (g : Bool) : Type 0 where
@@ -106,7 +107,8 @@ place-kept c l m p q i bs h less more later =
 -- a blank place is in order
 pub blank-good : (c l p i : ℕ) → placeGood c l p i blankBytes ≡ true
 blank-good c l p i =
-    or-left (sameBytes blankBytes blankBytes) (isHeld c l p i blankBytes) (sameBytes-decides blankBytes blankBytes .1 refl)
+    or-left (sameBytes blankBytes blankBytes) (isHeld c l p i blankBytes)
+    (sameBytes-decides blankBytes blankBytes .1 refl)
 
 -- an entry that was written, read again
 module _ (n b : ℕ) (d : Command) (slot : n < 256 ^ 4) (ballot : b < 256 ^ 4) (sized : Sized d) where

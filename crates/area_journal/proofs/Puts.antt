@@ -73,7 +73,8 @@ module _ (area : List ℕ) (s : Sound area) (n b : ℕ) (d : Command) (slot : n 
             good-place new (capacityOf area) (promisedOf area) (countOf area) i (entryBytes n b d) cap promised count
             (ap (placeIn new) e ∙ this-place)
             (entry-good n b d slot ballot sized (capacityOf area) (promisedOf area) (countOf area) i
-            (subst (λ (k : ℕ). Held (capacityOf area) (promisedOf area) (countOf area) k n b (wellFormed d)) (sym e) h))
+            (subst (λ (k : ℕ). Held (capacityOf area) (promisedOf area) (countOf area) k n b (wellFormed d)) (sym e)
+            h))
         | inr e ↦ good-place new _ _ _ i _ cap promised count (other-place i e) (place-good area i (s .places i l))
       ]
 
@@ -130,7 +131,9 @@ held area n b d h =
       good = s .1;
     }
 
-pub did-put : (area exit : List ℕ) (n b i : ℕ) (d : Command) → isSound area ≡ true → n < 256 ^ 4 → b < 256 ^ 4 → Sized d
+pub did-put : (area exit : List ℕ) (n b i : ℕ) (d : Command) → isSound area ≡ true → n < 256 ^ 4
+    → b < 256 ^ 4
+    → Sized d
     → takesPut area n b d ≡ true
     → i ≡ placeAt (n % 8)
     → exit ≡ over area i (entryBytes n b d)

@@ -193,7 +193,8 @@ pub did-settle : (area once twice exit : List ℕ) (q i k : ℕ) (d : Command) �
 unfolding written
 did-settle area once twice exit q i k d sound sized t count at place e f g =
     let h = and-parts (ltb (countOf area) (capacityOf area)) (wellFormed d) t in
-    let left = settled area (sound-parts area sound) d sized (h .1) (ltb-true (countOf area) (capacityOf area) (h .0)) in
+    let left = settled area (sound-parts area sound) d sized (h .1)
+    (ltb-true (countOf area) (capacityOf area) (h .0)) in
     let same : exit ≡ written (Settle d) area =
     g ∙ ap₂ (λ (xs : List ℕ) (n : ℕ). over xs n blankBytes)
     (f ∙ ap (λ (xs : List ℕ). over xs 4 (le 4 (q + 1))) (e ∙ ap (λ (n : ℕ). over area n (commandBytes d)) at)) place

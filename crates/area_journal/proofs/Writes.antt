@@ -29,7 +29,8 @@ pub record Left (new : List ℕ) (m : Meaning) : Type 0 where
   pub means : meaningOf new ≡ m
 
 -- a place of an area is in order by its parts
-pub good-place : (area : List ℕ) (c l p i : ℕ) (bs : List ℕ) → capacityOf area ≡ c → promisedOf area ≡ l → countOf area ≡ p
+pub good-place : (area : List ℕ) (c l p i : ℕ) (bs : List ℕ) → capacityOf area ≡ c → promisedOf area ≡ l
+    → countOf area ≡ p
     → placeIn area i ≡ bs
     → placeGood c l p i bs ≡ true
     → placeIsGood area i ≡ true
@@ -91,7 +92,8 @@ module _ (area : List ℕ) (s : Sound area) where
                 promised = ballot j;
                 settled =
                     (ap (λ (n : ℕ). map (commandIn new) (counting 0 n)) count
-                    ∙ same-counted (commandIn new) (commandIn area) (countOf area) (λ i h. ap commandOf (same-record i)))
+                    ∙ same-counted (commandIn new) (commandIn area) (countOf area)
+                    (λ i h. ap commandOf (same-record i)))
                     j;
                 places = same-counted (entryIn new) (entryIn area) 8 (λ i h. ap entryOf (same-place i)) j;
               };

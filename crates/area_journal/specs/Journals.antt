@@ -20,13 +20,13 @@ use Rattle.area_journal.specs.Reading.{meaningOf}
 abbrev pub bytesOf : AreaJournal → List ℕ
 bytesOf j = vec-items (j .area)
 
--- what opening answers: a journal of the same bytes exactly where there is no fault, else the bytes back with the first
--- fault
+-- what opening answers: a journal of the same bytes exactly where there is no fault, else the bytes back with the
+-- first fault
 abbrev pub Opens : List ℕ → Result AreaJournal (Vec ℕ Global × OpenFault) → Type 0
 Opens area (Ok j) = (fault area ≡ None) × (bytesOf j ≡ area)
 Opens area (Err e) = (fault area ≡ Some (e .1)) × (vec-items (e .0) ≡ area)
 
--- what opening these bytes must answer where they are those of a journal with this meaning: a journal that means the same
+-- what opening the bytes of a journal with this meaning must answer: a journal that means the same
 abbrev pub Again : Meaning → Result AreaJournal (Vec ℕ Global × OpenFault) → Type 0
 Again m (Ok j) = meaningOf (bytesOf j) ≡ m
 Again m (Err e) = ⊥

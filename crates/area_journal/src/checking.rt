@@ -3,7 +3,7 @@
 ghost use Prim.Native.Nat.{_≤_, _<_};
 ghost use Rattle.area_journal.specs.Exactness.{Exact};
 ghost use Rattle.area_journal.specs.Layout.{recordBytes, placeBytes, blankBytes};
-ghost use Rattle.area_journal.specs.Opening.{recordGood, isHeld, placeGood, placeIsGood, recordIsGood, firstBad, fault};
+ghost use Rattle.area_journal.specs.Opening.{recordGood, isHeld, placeIsGood, recordIsGood, firstBad, fault};
 ghost use Rattle.area_journal.specs.Reading.{shortest, capacityOf, countOf};
 ghost use Rattle.std.specs.shelf.Text.{sameBytes};
 ghost use Rattle.std.specs.Options.{Cases as BySome};

@@ -19,4 +19,5 @@ returns c =
     did-put (c .args .area .now) (c .write-entry .last .area) (c .args .slot) (c .args .ballot)
     (c .place-at-at .result) (c .args .command .now) (c .pre .sound) (omega (arith, c .fits .slot .fits))
     (omega (arith, c .fits .ballot .fits))
-    (c .know-widths .ensures) (sym (c .if-not-takes-put .ensures tt)) (c .place-at-at .ensures) (c .write-entry .ensures)
+    (c .know-widths .ensures) (sym (c .if-not-takes-put .ensures tt)) (c .place-at-at .ensures)
+    (c .write-entry .ensures)
