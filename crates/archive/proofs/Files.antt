@@ -25,7 +25,7 @@ use Rattle.archive.specs.Layout.{mark, header, entries, layout, Archive}
 use Rattle.archive.specs.Reading.{hasMark, hasChain, hasCount, orCount, fault, scanned, scanAll, found, membersOf}
 use Rattle.archive.specs.Reading.{startOf, countAt, bodyOf}
 use Rattle.archive.specs.Readers.{Exact}
-use Rattle.archive.proofs.OneEntry.{part-join}
+use Rattle.bytes.proofs.Parts.{part-join}
 use Rattle.archive.proofs.Scans.{scan-entries, whole, some-none}
 
 -- where nothing is broken, each test passed

@@ -1,21 +1,21 @@
 -- One entry: what is written of a command is read again as that command, and what is read is written again the same.
-use mathlib.Core.Path.{_≡_, refl, sym, ap, ap₂, subst, _∙_}
-use mathlib.Core.Bool.{Bool, true, false, cond, _&&_}
+use mathlib.Core.Path.{_≡_, refl, sym, ap, subst, _∙_}
+use mathlib.Core.Bool.{Bool, true, cond, _&&_}
 use mathlib.Core.List.{List, [], _∷_, _++_}
-use Prim.Native.Nat.{ℕ, zero, suc, _+_, _-_, _^_, _<_, _≤_}
+use Prim.Native.Nat.{ℕ, _+_, _<_, _≤_}
 use native.Mathlib.Omega.{arith}
 use lib.Dec.{eqb, leb}
-use lib.ListN.{length, take, drop, getD}
+use lib.ListN.{length, take, getD}
 use Rattle.std.specs.declared.option.Option.{Option}
 use Rattle.std.specs.declared.option.Option.the-variants.{Some, None}
 use Rattle.std.proofs.shelf.Tests.{cond-true, cond-both, cases-bool, eqb-true, leb-true, le-leb, and-parts, cond-false}
-use Rattle.std.proofs.shelf.Elements.{all-getD, all-take, all-drop}
-use Rattle.std.proofs.shelf.Lists.{length-take-le, length-drop, take-take, drop-drop, drop-take, take-append-drop}
-use mathlib.Core.Logic.{_⊎_, inl, inr}
+use Rattle.std.proofs.shelf.Elements.{all-getD}
+use mathlib.Core.Logic.{inl, inr}
 use Rattle.bytes.specs.Areas.{part}
 use Rattle.bytes.specs.Numbers.{le, num}
-use Rattle.bytes.proofs.Numbers.{Bytes, num-le, le-num, num-fits}
+use Rattle.bytes.proofs.Numbers.{Bytes, num-le}
 use Rattle.bytes.proofs.Areas.{part-more, part-two}
+use Rattle.bytes.proofs.Parts.{part-join, le-part, num-part}
 use Rattle.command.specs.declared.Command.{Command}
 use Rattle.command.specs.declared.Verb.{Verb}
 use Rattle.command.specs.declared.Verb.the-variants.{Noop, Add, Remove, Change}
@@ -132,28 +132,6 @@ pub record Rewritten (c : Command) (bs : List ℕ) (size : ℕ) : Type 0 where
   pub bytes : entry c ≡ take size bs
   pub some : 1 ≤ size
   pub fits : size ≤ length bs
-
--- two parts that follow each other
-pub part-join : (i n m : ℕ) (bs : List ℕ) → part i n bs ++ part (i + n) m bs ≡ part i (n + m) bs
-part-join i n m bs =
-    let l = drop i bs in
-    ap₂ (λ (xs ys : List ℕ). xs ++ ys) (sym (take-take n (n + m) l (omega arith)))
-    (ap (take m) (sym (drop-drop n i bs)) ∙ sym (drop-take n m l))
-    ∙ take-append-drop n (take (n + m) l)
-
-module _ (bs : List ℕ) (h : Bytes bs) (i n : ℕ) (l : i + n ≤ length bs) where
-  part-length : length (part i n bs) ≡ n
-  part-length = length-take-le n (drop i bs) (let d = length-drop i bs in omega arith)
-
-  part-bytes : Bytes (part i n bs)
-  part-bytes = all-take (λ b. b < 256) n (drop i bs) (all-drop (λ b. b < 256) i bs h)
-
-  -- the bytes of a number that was read are those that it was read from
-  pub le-part : le n (num (part i n bs)) ≡ part i n bs
-  le-part = ap (λ (k : ℕ). le k (num (part i n bs))) (sym part-length) ∙ le-num (part i n bs) part-bytes
-
-  num-part : num (part i n bs) < 256 ^ n
-  num-part = let f = num-fits (part i n bs) part-bytes in rw part-length at f
 
 -- an entry of two bytes, verb n and a director
 directed : ℕ → ℕ → Command

@@ -1,29 +1,21 @@
 -- Opening a file, by what each of its tests found.
-use mathlib.Core.Path.{_≡_, refl, sym, ap, ap₂, _∙_}
-use mathlib.Core.Bool.{Bool, true, false, cond, _&&_}
+use mathlib.Core.Path.{_≡_, refl, sym, ap, _∙_}
+use mathlib.Core.Bool.{Bool, true, false, cond}
 use mathlib.Core.List.{List}
-use Prim.Native.Nat.{ℕ, _+_, _-_, _<_, _≤_}
+use Prim.Native.Nat.{ℕ, _-_, _<_, _≤_}
 use native.Mathlib.Omega.{arith}
-use mir.Val.{Fits}
-use mir.Syntax.{w8}
-use lib.Dec.{leb, ltb, eqb}
+use lib.Dec.{leb}
 use lib.ListN.{length, take, drop, getD}
-use Rattle.std.specs.declared.option.Option.{Option}
 use Rattle.std.specs.declared.option.Option.the-variants.{Some, None}
-use Rattle.std.proofs.shelf.Elements.{all-from-getD}
 use Rattle.std.proofs.shelf.Lists.{take-all, length-drop}
 use Rattle.std.proofs.shelf.Parts.{between-is}
 use Rattle.std.proofs.shelf.Tests.{lt-ltb, le-ltb, lt-leb, le-leb, and-from, and-left, and-right, eq-eqb, ne-eqb}
 use Rattle.bytes.specs.Areas.{part}
 use Rattle.bytes.specs.Numbers.{num}
-use Rattle.bytes.proofs.Numbers.{Bytes}
 use Rattle.command.specs.Members.{validChain}
 use Rattle.archive.specs.Reading.{fault, hasMark, hasChain, hasCount, orCount, scanned, scanAll, membersOf, startOf}
 use Rattle.archive.specs.Reading.{countAt, bodyOf}
 use Rattle.archive.proofs.Files.{fault-by}
-
-pub file-bytes : (f : List ℕ) → ((i : ℕ) → Fits w8 (getD f i 0)) → Bytes f
-file-bytes f h = all-from-getD (λ b. b < 256) f 0 (λ i _. h i .fits)
 
 pub fault-short : (f : List ℕ) → length f < 8 → fault f ≡ Some 0
 fault-short f h = fault-by f true (hasMark f) (hasChain f) (lt-ltb (length f) 8 h) refl refl

@@ -9,9 +9,7 @@ use lib.Dec.{leb, ltb}
 use lib.ListN.{length}
 use Rattle.std.specs.declared.option.Option.{Option}
 use Rattle.std.specs.declared.option.Option.the-variants.{Some, None}
-use Rattle.std.proofs.shelf.Tests.{cond-true, cond-false, lt-ltb, le-ltb, le-leb, lt-leb, cases-bool, cases-lt}
-use Rattle.std.proofs.shelf.Tests.{leb-true}
-use Rattle.std.proofs.shelf.Tests.{ltb-false}
+use Rattle.std.proofs.shelf.Tests.{cond-true, cond-false, lt-ltb, le-ltb, le-leb, lt-leb, cases-lt}
 use Rattle.area_journal.specs.declared.faults.OpenFault.{OpenFault}
 use Rattle.area_journal.specs.declared.faults.OpenFault.the-variants.{NoRecord, Broken}
 use Rattle.area_journal.specs.Layout.{countAt, placeAt, recordAt}

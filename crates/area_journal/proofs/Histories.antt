@@ -1,6 +1,6 @@
 -- The writes that may lie behind a journal.
-use mathlib.Core.Path.{_≡_, refl, sym, ap, ap₂, subst, _∙_}
-use mathlib.Core.Bool.{Bool, true, false, cond, _&&_}
+use mathlib.Core.Path.{_≡_, refl, ap, _∙_}
+use mathlib.Core.Bool.{Bool, true, false, cond}
 use mathlib.Core.List.{List, [], _∷_, _++_, append-nil}
 use Rattle.std.proofs.shelf.Tests.{and-parts, and-from}
 use Rattle.journal.specs.declared.writes.Write.{Write}

@@ -1,5 +1,4 @@
 pub mod Checks
-pub mod Parts
 pub mod Places
 pub mod Meanings
 pub mod Writes
@@ -8,3 +7,5 @@ pub mod Settles
 pub mod Questions
 pub mod Histories
 pub mod Keeping
+pub mod Exactness
+pub mod Layouts

@@ -1,9 +1,9 @@
 -- The meaning of an area, part by part.
 use mathlib.Core.Path.{_≡_, refl, sym, ap, ap₂, _∙_}
-use mathlib.Core.Bool.{Bool, true, false, cond, _&&_}
-use mathlib.Core.Logic.{_⊎_, inl, inr, _≢_}
+use mathlib.Core.Bool.{true, false, _&&_}
+use mathlib.Core.Logic.{inl, inr}
 use mathlib.Core.List.{List, [], _∷_, _++_, map}
-use Prim.Native.Nat.{ℕ, _+_, _-_, _/_, _<_, _≤_, min}
+use Prim.Native.Nat.{ℕ, _+_, _-_, _/_, _<_, min}
 use native.Mathlib.Omega.{arith}
 use lib.Dec.{eqb, leb, ltb}
 use lib.ListN.{length, getD, set}
@@ -13,13 +13,12 @@ use Rattle.std.proofs.shelf.Lists.{length-set, getD-set-same, getD-set-other}
 use Rattle.std.proofs.shelf.Tests.{cases-eq, cond-true, cond-false}
 use Rattle.command.specs.declared.Command.{Command}
 use Rattle.command.specs.Commands.{wellFormed}
-use Rattle.journal.specs.declared.writes.Entry.{Entry}
 use Rattle.journal.specs.declared.writes.Write.{Write}
 use Rattle.journal.specs.declared.writes.Write.the-variants.{Promise, Put, Settle}
-use Rattle.journal.specs.Meaning.{Meaning, taken, after, step, settledCount}
+use Rattle.journal.specs.Meaning.{taken, after, step, settledCount}
 use Rattle.journal.specs.Windows.{inWindow}
 use Rattle.area_journal.specs.Layout.{recordBytes, recordsAt}
-use Rattle.area_journal.specs.Reading.{capacityOf, promisedOf, countOf, commandIn, entryIn, meaningOf}
+use Rattle.area_journal.specs.Reading.{capacityOf, promisedOf, countOf, commandIn, meaningOf}
 use Rattle.area_journal.specs.Opening.{isSound}
 use Rattle.area_journal.specs.Writing.{takesPut, takesSettle, written, Does}
 use Rattle.area_journal.proofs.Checks.{Sound, sound-from}

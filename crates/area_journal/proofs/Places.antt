@@ -1,12 +1,11 @@
 -- What the bytes of records and places hold, and when they are in order.
-use mathlib.Core.Path.{_≡_, refl, sym, ap, ap₂, subst, _∙_}
-use mathlib.Core.Bool.{Bool, true, false, _&&_, _||_}
-use mathlib.Core.Logic.{_⊎_, inl, inr}
-use mathlib.Core.List.{List, [], _∷_, _++_}
+use mathlib.Core.Path.{_≡_, refl, ap, _∙_}
+use mathlib.Core.Bool.{Bool, true, _&&_}
+use mathlib.Core.Logic.{inl, inr}
+use mathlib.Core.List.{List}
 use Prim.Native.Nat.{ℕ, _+_, _^_, _%_, _<_, _≤_}
 use native.Mathlib.Omega.{arith}
 use lib.Dec.{eqb, leb, ltb}
-use lib.ListN.{length}
 use Rattle.std.specs.shelf.Text.{sameBytes}
 use Rattle.std.proofs.shelf.Equals.{sameBytes-decides}
 use Rattle.std.proofs.shelf.Tests.{and-parts, and-from, eqb-true, eq-eqb, leb-true, le-leb, ltb-true, lt-ltb}
@@ -15,8 +14,6 @@ use Rattle.bytes.specs.Areas.{part}
 use Rattle.bytes.proofs.Numbers.{num-le}
 use Rattle.command.specs.declared.Command.{Command}
 use Rattle.command.specs.Commands.{wellFormed, serialBytes, Sized}
-use Rattle.journal.specs.declared.writes.Entry.{Entry}
-use Rattle.journal.specs.Windows.{inWindow}
 use Rattle.area_journal.specs.Layout.{commandBytes, entryBytes, blankBytes, commandOf, slotOf, entryOf}
 use Rattle.area_journal.specs.Layout.{recordBytes}
 use Rattle.area_journal.specs.Opening.{recordGood, isHeld, placeGood}

@@ -1,31 +1,30 @@
 -- What a put that is taken leaves.
 use mathlib.Core.Path.{_≡_, refl, sym, ap, subst, _∙_}
-use mathlib.Core.Bool.{Bool, true, false, _&&_}
-use mathlib.Core.Logic.{_⊎_, inl, inr}
-use mathlib.Core.List.{List, [], _∷_, _++_, map}
-use Prim.Native.Nat.{ℕ, _+_, _*_, _^_, _%_, _<_, _≤_}
+use mathlib.Core.Bool.{true, false, _&&_}
+use mathlib.Core.Logic.{inl, inr}
+use mathlib.Core.List.{List, map}
+use Prim.Native.Nat.{ℕ, _+_, _^_, _%_, _<_, _≤_}
 use native.Mathlib.Omega.{arith}
 use lib.Dec.{eqb, leb, ltb}
-use lib.ListN.{length, set}
+use lib.ListN.{length}
 use Rattle.std.specs.Iters.{counting}
 use Rattle.std.proofs.shelf.Tests.{cases-eq, cases-lt, and-parts, eqb-true, leb-true, ltb-true}
 use Rattle.bytes.specs.Areas.{part, over}
-use Rattle.bytes.specs.Numbers.{le, num}
+use Rattle.bytes.specs.Numbers.{num}
 use Rattle.bytes.proofs.Areas.{length-over}
 use Rattle.command.specs.declared.Command.{Command}
 use Rattle.command.specs.Commands.{wellFormed, Sized}
-use Rattle.journal.specs.declared.writes.Entry.{Entry}
 use Rattle.journal.specs.declared.writes.Write.the-variants.{Put}
-use Rattle.journal.specs.Meaning.{Meaning, after}
+use Rattle.journal.specs.Meaning.{after}
 use Rattle.area_journal.specs.Layout.{placeAt, recordAt, placeBytes, recordBytes, entryBytes, commandOf, entryOf}
 use Rattle.area_journal.specs.Reading.{capacityOf, promisedOf, countOf, placeIn, recordIn, commandIn, entryIn}
 use Rattle.area_journal.specs.Reading.{meaningOf}
-use Rattle.area_journal.specs.Opening.{placeGood, placeIsGood, isSound}
+use Rattle.area_journal.specs.Opening.{placeIsGood, isSound}
 use Rattle.area_journal.specs.Writing.{written, takesPut, Does}
 use Rattle.area_journal.proofs.Checks.{Sound, sound-parts}
-use Rattle.area_journal.proofs.Parts.{part-over, part-below, part-above}
+use Rattle.bytes.proofs.Parts.{part-over, part-below, part-above}
 use Rattle.area_journal.proofs.Places.{Held, entry-read, entry-good}
-use Rattle.area_journal.proofs.Meanings.{same-counted, set-counted, capacity-same, taken-put, does}
+use Rattle.area_journal.proofs.Meanings.{same-counted, set-counted, capacity-same, taken-put, does, does-not}
 use Rattle.area_journal.proofs.Writes.{Left, good-place, place-good, record-same}
 
 module _ (area : List ℕ) (s : Sound area) (n b : ℕ) (d : Command) (slot : n < 256 ^ 4) (ballot : b < 256 ^ 4)
@@ -74,7 +73,8 @@ module _ (area : List ℕ) (s : Sound area) (n b : ℕ) (d : Command) (slot : n 
             good-place new (capacityOf area) (promisedOf area) (countOf area) i (entryBytes n b d) cap promised count
             (ap (placeIn new) e ∙ this-place)
             (entry-good n b d slot ballot sized (capacityOf area) (promisedOf area) (countOf area) i
-            (subst (λ (k : ℕ). Held (capacityOf area) (promisedOf area) (countOf area) k n b (wellFormed d)) (sym e) h))
+            (subst (λ (k : ℕ). Held (capacityOf area) (promisedOf area) (countOf area) k n b (wellFormed d)) (sym e)
+            h))
         | inr e ↦ good-place new _ _ _ i _ cap promised count (other-place i e) (place-good area i (s .places i l))
       ]
 
@@ -131,7 +131,9 @@ held area n b d h =
       good = s .1;
     }
 
-pub did-put : (area exit : List ℕ) (n b i : ℕ) (d : Command) → isSound area ≡ true → n < 256 ^ 4 → b < 256 ^ 4 → Sized d
+pub did-put : (area exit : List ℕ) (n b i : ℕ) (d : Command) → isSound area ≡ true → n < 256 ^ 4
+    → b < 256 ^ 4
+    → Sized d
     → takesPut area n b d ≡ true
     → i ≡ placeAt (n % 8)
     → exit ≡ over area i (entryBytes n b d)
@@ -142,3 +144,7 @@ did-put area exit n b i d sound slot ballot sized t at e =
     let same : exit ≡ written (Put n b d) area = e ∙ ap (λ (k : ℕ). over area k (entryBytes n b d)) at in
     does (Put n b d) area exit (taken-put area n b d ∙ t) same (subst Sound (sym same) (left .sound))
     (ap meaningOf same ∙ left .means)
+
+pub refused-put : (area : List ℕ) (n b : ℕ) (d : Command) → isSound area ≡ true → false ≡ takesPut area n b d
+    → Does (Put n b d) area area false
+refused-put area n b d sound t = does-not (Put n b d) area (taken-put area n b d ∙ sym t) sound

@@ -1,23 +1,21 @@
 -- What a journal tells, by its bytes.
-use mathlib.Core.Path.{_≡_, refl, sym, ap, ap₂, _∙_}
-use mathlib.Core.Bool.{Bool, true, false, cond, _&&_}
-use mathlib.Core.List.{List, [], _∷_, _++_, map}
+use mathlib.Core.Path.{_≡_, sym, ap₂, _∙_}
+use mathlib.Core.Bool.{true, cond}
+use mathlib.Core.List.{List, map}
 use Prim.Native.Nat.{ℕ, _+_, _-_, _%_, _<_, _≤_}
 use native.Mathlib.Omega.{arith}
 use lib.Dec.{eqb, leb, ltb}
-use lib.ListN.{length, getD}
 use Rattle.std.specs.Iters.{counting}
 use Rattle.std.proofs.shelf.Counted.{length-map-counting, getD-map-counting}
 use Rattle.std.proofs.shelf.Lists.{getD-past}
-use Rattle.std.proofs.shelf.Tests.{cond-true, cond-false, eq-eqb, ne-eqb, and-from, and-left, and-right, lt-ltb, le-ltb}
+use Rattle.std.proofs.shelf.Tests.{cond-true, cond-false, ne-eqb, and-from, and-left, and-right, lt-ltb, le-ltb}
 use Rattle.std.proofs.shelf.Tests.{le-leb, lt-leb}
-use Rattle.command.specs.declared.Command.{Command}
 use Rattle.journal.specs.declared.writes.Entry.{Entry}
-use Rattle.journal.specs.Meaning.{Meaning, Within, settledOf, openOf, noop, blank}
-use Rattle.journal.specs.Windows.{inWindow, elementAt}
+use Rattle.journal.specs.Meaning.{Within, settledOf, openOf, noop, blank}
+use Rattle.journal.specs.Windows.{inWindow}
 use Rattle.area_journal.specs.Opening.{isSound}
-use Rattle.area_journal.specs.Reading.{shortest, capacityOf, countOf, commandIn, entryIn, meaningOf}
-use Rattle.area_journal.proofs.Checks.{Sound, sound-parts}
+use Rattle.area_journal.specs.Reading.{countOf, commandIn, entryIn, meaningOf}
+use Rattle.area_journal.proofs.Checks.{sound-parts}
 
 module _ (area : List ℕ) where
   abbrev p : ℕ

@@ -1,34 +1,33 @@
 -- What a settle that is taken leaves.
 use mathlib.Core.Path.{_≡_, refl, sym, ap, ap₂, subst, _∙_}
-use mathlib.Core.Bool.{Bool, true, false}
-use mathlib.Core.Logic.{_⊎_, inl, inr}
-use mathlib.Core.List.{List, [], _∷_, _++_, map}
-use Prim.Native.Nat.{ℕ, _+_, _*_, _^_, _%_, _<_, _≤_}
+use mathlib.Core.Bool.{true}
+use mathlib.Core.Logic.{inl, inr}
+use mathlib.Core.List.{List, map}
+use Prim.Native.Nat.{ℕ, _+_, _^_, _%_, _<_, _≤_}
 use native.Mathlib.Omega.{arith}
 use lib.Dec.{ltb}
 use lib.ListN.{length, set}
 use Rattle.std.specs.Iters.{counting}
 use Rattle.std.proofs.shelf.Counted.{length-map-counting}
 use Rattle.std.proofs.shelf.Tests.{cases-eq, cases-lt, and-parts, ltb-true}
-use Rattle.bytes.specs.Areas.{part, over}
+use Rattle.bytes.specs.Areas.{over}
 use Rattle.bytes.specs.Numbers.{le, num}
 use Rattle.bytes.proofs.Areas.{length-over}
 use Rattle.bytes.proofs.Numbers.{num-le}
 use Rattle.command.specs.declared.Command.{Command}
 use Rattle.command.specs.Commands.{wellFormed, Sized}
-use Rattle.journal.specs.declared.writes.Entry.{Entry}
 use Rattle.journal.specs.declared.writes.Write.the-variants.{Settle}
-use Rattle.journal.specs.Meaning.{Meaning, after, blank}
+use Rattle.journal.specs.Meaning.{after, blank}
 use Rattle.area_journal.specs.Layout.{placeAt, recordAt, placeBytes, recordBytes, commandBytes, blankBytes}
 use Rattle.area_journal.specs.Layout.{commandOf, entryOf}
 use Rattle.area_journal.specs.Reading.{capacityOf, promisedOf, countOf, placeIn, recordIn, commandIn, entryIn}
 use Rattle.area_journal.specs.Reading.{meaningOf}
-use Rattle.area_journal.specs.Opening.{placeGood, placeIsGood, recordIsGood, isSound}
+use Rattle.area_journal.specs.Opening.{placeIsGood, recordIsGood, isSound}
 use Rattle.area_journal.specs.Writing.{written, settledArea, takesSettle, Does}
 use Rattle.area_journal.proofs.Checks.{Sound, sound-parts}
-use Rattle.area_journal.proofs.Parts.{part-over, part-below, part-above}
+use Rattle.bytes.proofs.Parts.{part-over, part-below, part-above}
 use Rattle.area_journal.proofs.Places.{place-kept, blank-good, record-good, command-read}
-use Rattle.area_journal.proofs.Meanings.{same-counted, set-counted, more-counted, capacity-same}
+use Rattle.area_journal.proofs.Meanings.{set-counted, more-counted, capacity-same}
 use Rattle.area_journal.proofs.Meanings.{taken-settle, does}
 use Rattle.area_journal.proofs.Writes.{Left, good-place, place-good, good-record, record-same}
 

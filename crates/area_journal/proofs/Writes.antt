@@ -1,33 +1,27 @@
 -- What each write that is taken leaves: an area that is in order, with the meaning that it must have.
-use mathlib.Core.Path.{_≡_, refl, sym, ap, ap₂, subst, _∙_}
-use mathlib.Core.Bool.{Bool, true, false}
-use mathlib.Core.Logic.{_⊎_, inl, inr}
-use mathlib.Core.List.{List, [], _∷_, _++_, map}
-use Prim.Native.Nat.{ℕ, _+_, _*_, _^_, _%_, _<_, _≤_}
+use mathlib.Core.Path.{_≡_, refl, ap, _∙_}
+use mathlib.Core.Bool.{true}
+use mathlib.Core.List.{List, map}
+use Prim.Native.Nat.{ℕ, _+_, _^_, _<_, _≤_}
 use native.Mathlib.Omega.{arith}
-use lib.ListN.{length, set}
+use lib.ListN.{length}
 use Rattle.std.specs.Iters.{counting}
-use Rattle.std.proofs.shelf.Counted.{length-map-counting}
-use Rattle.std.proofs.shelf.Tests.{cases-order, cases-eq, cases-lt}
-use Rattle.bytes.specs.Areas.{part, over}
+use Rattle.bytes.specs.Areas.{over}
 use Rattle.bytes.specs.Numbers.{le, num}
 use Rattle.bytes.proofs.Areas.{length-over}
 use Rattle.bytes.proofs.Numbers.{num-le}
-use Rattle.command.specs.declared.Command.{Command}
-use Rattle.command.specs.Commands.{wellFormed, Sized}
-use Rattle.journal.specs.declared.writes.Entry.{Entry}
-use Rattle.journal.specs.declared.writes.Write.the-variants.{Promise, Put, Settle}
-use Rattle.journal.specs.Meaning.{Meaning, after, blank}
-use Rattle.area_journal.specs.Layout.{placeAt, recordAt, placeBytes, recordBytes, commandBytes, entryBytes, blankBytes}
+use Rattle.journal.specs.declared.writes.Write.the-variants.{Promise}
+use Rattle.journal.specs.Meaning.{Meaning, after}
+use Rattle.area_journal.specs.Layout.{placeAt, recordAt, placeBytes, recordBytes}
 use Rattle.area_journal.specs.Layout.{commandOf, entryOf}
-use Rattle.area_journal.specs.Reading.{shortest, capacityOf, promisedOf, countOf, placeIn, recordIn, commandIn, entryIn}
+use Rattle.area_journal.specs.Reading.{capacityOf, promisedOf, countOf, placeIn, recordIn, commandIn, entryIn}
 use Rattle.area_journal.specs.Reading.{meaningOf}
 use Rattle.area_journal.specs.Opening.{placeGood, recordGood, placeIsGood, recordIsGood}
-use Rattle.area_journal.specs.Writing.{written, settledArea}
+use Rattle.area_journal.specs.Writing.{written}
 use Rattle.area_journal.proofs.Checks.{Sound}
-use Rattle.area_journal.proofs.Parts.{part-over, part-below, part-above}
-use Rattle.area_journal.proofs.Places.{Held, place-kept, blank-good, record-good, command-read, entry-read, entry-good}
-use Rattle.area_journal.proofs.Meanings.{same-counted, set-counted, more-counted, capacity-same}
+use Rattle.bytes.proofs.Parts.{part-over, part-above}
+use Rattle.area_journal.proofs.Places.{place-kept}
+use Rattle.area_journal.proofs.Meanings.{same-counted, capacity-same}
 
 -- what a write leaves
 pub record Left (new : List ℕ) (m : Meaning) : Type 0 where

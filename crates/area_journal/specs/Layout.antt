@@ -1,6 +1,6 @@
--- The layout of a journal in an area of bytes: where each part stands, and the bytes of a command and of an open entry.
+-- The layout of a journal in an area of bytes: where each part stands, and the bytes of commands and open entries.
 -- Numbers stand with their lowest byte first.
-use mathlib.Core.List.{List, [], _∷_, _++_}
+use mathlib.Core.List.{List, _∷_, _++_}
 use Prim.Native.Nat.{ℕ, _+_, _*_}
 use lib.ListN.{replicate, getD}
 use Rattle.bytes.specs.Areas.{part}

@@ -1,8 +1,9 @@
 //! The checks of opening.
 
 ghost use Prim.Native.Nat.{_≤_, _<_};
+ghost use Rattle.area_journal.specs.Exactness.{Exact};
 ghost use Rattle.area_journal.specs.Layout.{recordBytes, placeBytes, blankBytes};
-ghost use Rattle.area_journal.specs.Opening.{recordGood, isHeld, placeGood, placeIsGood, recordIsGood, firstBad, fault};
+ghost use Rattle.area_journal.specs.Opening.{recordGood, isHeld, placeIsGood, recordIsGood, firstBad, fault};
 ghost use Rattle.area_journal.specs.Reading.{shortest, capacityOf, countOf};
 ghost use Rattle.std.specs.shelf.Text.{sameBytes};
 ghost use Rattle.std.specs.Options.{Cases as BySome};
@@ -30,7 +31,8 @@ pub(crate) const BLANK: [u8; PLACE_BYTES] = [0; PLACE_BYTES];
 
 // What opening finds, in the order of its checks: length, count, places, settled records.
 pub(crate) fn fault_in(area: &[u8]) -> Option<OpenFault>
-    ensures { λ r. ⌜ r ≡ fault (now (area .entry)) ⌝ }
+    ensures answer { λ r. ⌜ r ≡ fault (now (area .entry)) ⌝ }
+    ensures exact { λ _. ⌜ Exact (now (area .entry)) ⌝ }
 {
     if area.len() < SHORTEST {
         return Some(OpenFault::NoRecord);

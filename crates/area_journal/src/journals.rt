@@ -1,10 +1,17 @@
 //! A journal in bytes: opened, asked, written and released.
 
-ghost use Rattle.area_journal.specs.Journals.{Opens, bytesOf, Behind};
+ghost use Rattle.area_journal.specs.Exactness.{Exact};
+ghost use Rattle.area_journal.specs.Journals.{Opens, Again, bytesOf, Behind};
 ghost use Rattle.area_journal.specs.Opening.{fault};
 ghost use Rattle.area_journal.specs.Reading.{meaningOf};
 ghost use Rattle.area_journal.specs.Writing.{Does};
+ghost use Prim.Native.Nat.{ℕ};
+ghost use Rattle.area_journal.specs.declared.areas.AreaJournal.{AreaJournal};
+ghost use Rattle.area_journal.specs.declared.faults.OpenFault.{OpenFault};
 ghost use Rattle.std.specs.Of.Vec.{vec-items};
+ghost use Rattle.std.specs.declared.alloc.Global.{Global};
+ghost use Rattle.std.specs.declared.result.Result.{Result};
+ghost use Rattle.std.specs.declared.vec.Vec.{Vec};
 ghost use Rattle.std.specs.declared.option.Option.the-variants.{None};
 ghost use mathlib.Core.Path.{_≡_};
 use crate::AreaJournal;
@@ -25,7 +32,8 @@ impl AreaJournal {
     /// Takes an area with any content as a journal, or hands it back with the first fault: refusal 12 where it has no
     /// space for a record, else 13 with the offset of the first part that is not in order. No byte is altered.
     pub fn open(area: Vec<u8>) -> Result<AreaJournal, (Vec<u8>, OpenFault)>
-        ensures { λ r. ⌜ Opens (vec-items area) r ⌝ }
+        ensures opens { λ r. ⌜ Opens (vec-items area) r ⌝ }
+        ensures exact { λ _. ⌜ Exact (vec-items area) ⌝ }
     {
         match fault_in(&area) {
             Some(fault) => Err((area, fault)),
@@ -51,6 +59,8 @@ impl AreaJournal {
     pub fn release(self) -> Vec<u8>
         ensures bytes { λ r. ⌜ vec-items r ≡ bytesOf self ⌝ }
         ensures sound { λ r. ⌜ fault (vec-items r) ≡ None ⌝ }
+        ensures again { λ r. ⌜ ((x : Result AreaJournal (Vec ℕ Global × OpenFault)) → Opens (vec-items r) x
+            → Again (meaningOf (bytesOf self)) x) ⌝ }
     {
         let AreaJournal { area } = self;
         area

@@ -5,7 +5,7 @@ use Rattle.bytes.specs.Areas.{over}
 use Rattle.bytes.specs.Numbers.{le}
 use Rattle.command.specs.Commands.{serialBytes}
 use Rattle.archive.specs.Layout.{entryAs}
-use Rattle.archive.proofs.Writes.{then-over}
+use Rattle.bytes.proofs.Parts.{then-over}
 use Rattle.archive.proofs.writing.write_change.Needs as need
 
 pub returns : need.returns

@@ -2,7 +2,7 @@ use mathlib.Core.List.{[], _∷_, _++_}
 use native.Mathlib.Omega.{arith}
 use lib.ListN.{length}
 use Rattle.archive.specs.Layout.{mark}
-use Rattle.archive.proofs.Writes.{then-over}
+use Rattle.bytes.proofs.Parts.{then-over}
 use Rattle.archive.proofs.writing.write_header.Needs as need
 
 pub returns : need.returns

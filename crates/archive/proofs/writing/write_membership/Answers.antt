@@ -1,6 +1,6 @@
 use mathlib.Core.List.{[], _∷_}
 use native.Mathlib.Omega.{arith}
-use Rattle.archive.proofs.Writes.{then-over}
+use Rattle.bytes.proofs.Parts.{then-over}
 use Rattle.archive.proofs.writing.write_membership.Needs as need
 
 pub returns : need.returns

@@ -1,4 +1,4 @@
-use mathlib.Core.Path.{sym, _∙_}
+use mathlib.Core.Path.{_∙_}
 use native.Mathlib.Omega.{arith}
 use Rattle.journal.specs.declared.writes.Write.the-variants.{Promise}
 use Rattle.std.proofs.shelf.Tests.{lt-leb, le-leb}
@@ -23,5 +23,6 @@ returns c =
     let fits = c .fits .ballot .fits in
     let left = promised area (sound-parts area (c .pre .sound)) b (omega arith) (omega arith) in
     let e = c .write-u32 .ensures in
-    does (Promise b) area (c .write-u32 .last .area) (taken-promise area b ∙ le-leb (promisedOf area) b (omega arith)) e
+    does (Promise b) area (c .write-u32 .last .area)
+    (taken-promise area b ∙ le-leb (promisedOf area) b (omega arith)) e
     (rw (e) (left .sound)) (rw (e) (left .means))

@@ -1,9 +1,7 @@
-use mathlib.Core.Path.{sym, _∙_}
+use mathlib.Core.Path.{sym}
 use native.Mathlib.Omega.{arith}
-use Rattle.journal.specs.declared.writes.Write.the-variants.{Put}
 use Rattle.area_journal.proofs.Checks.{sound-parts}
-use Rattle.area_journal.proofs.Meanings.{does-not, taken-put}
-use Rattle.area_journal.proofs.Puts.{did-put}
+use Rattle.area_journal.proofs.Puts.{did-put, refused-put}
 use Rattle.area_journal.proofs.writing.put_in.Needs as need
 
 pub takes-put-requires : need.takes-put-requires
@@ -13,11 +11,8 @@ takes-put-requires c κs =
 
 pub returns-then-not-takes-put : need.returns-then-not-takes-put
 returns-then-not-takes-put c =
-    let area = c .args .area .now in
-    let n = c .args .slot in
-    let b = c .args .ballot in
-    let d = c .args .command .now in
-    does-not (Put n b d) area (taken-put area n b d ∙ sym (c .if-not-takes-put .ensures tt)) (c .pre .sound)
+    refused-put (c .args .area .now) (c .args .slot) (c .args .ballot) (c .args .command .now) (c .pre .sound)
+    (c .if-not-takes-put .ensures tt)
 
 pub returns : need.returns
 returns c =

@@ -1,5 +1,4 @@
 use mathlib.Core.Path.{sym, _∙_}
-use native.Mathlib.Omega.{arith}
 use Rattle.journal.specs.declared.writes.Write.the-variants.{Settle}
 use Rattle.area_journal.proofs.Meanings.{does-not, taken-settle}
 use Rattle.area_journal.proofs.Settles.{did-settle}

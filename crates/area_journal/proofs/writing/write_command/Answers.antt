@@ -2,7 +2,7 @@ use mathlib.Core.List.{[], _∷_, _++_}
 use native.Mathlib.Omega.{arith}
 use Rattle.bytes.specs.Numbers.{le}
 use Rattle.command.specs.Commands.{serialBytes}
-use Rattle.area_journal.proofs.Parts.{then-over}
+use Rattle.bytes.proofs.Parts.{then-over}
 use Rattle.area_journal.proofs.writing.write_command.Needs as need
 
 pub returns : need.returns

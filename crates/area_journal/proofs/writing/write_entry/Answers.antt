@@ -1,8 +1,8 @@
-use mathlib.Core.List.{[], _∷_, _++_}
+use mathlib.Core.List.{_++_}
 use native.Mathlib.Omega.{arith}
 use Rattle.bytes.specs.Numbers.{le}
 use Rattle.area_journal.specs.Layout.{commandBytes}
-use Rattle.area_journal.proofs.Parts.{then-over}
+use Rattle.bytes.proofs.Parts.{then-over}
 use Rattle.area_journal.proofs.writing.write_entry.Needs as need
 
 pub returns : need.returns

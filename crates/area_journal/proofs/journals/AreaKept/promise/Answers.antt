@@ -9,6 +9,6 @@ returns c =
     record {
       answer = d .answer;
       after = d .after;
-      behind = behind-does (Promise (c .args .ballot)) (bytesOf (c .args .self .now)) (bytesOf (c .write .last .self))
-          (c .write .result) d;
+      behind = behind-does (Promise (c .args .ballot))
+          (bytesOf (c .args .self .now)) (bytesOf (c .write .last .self)) (c .write .result) d;
     }
