@@ -1,6 +1,5 @@
 -- What a journal of the code holds, and what opening answers.
-use mathlib.Core.Bool.{Bool, true, _&&_}
-use mathlib.Core.List.{List, [], _∷_}
+use mathlib.Core.List.{List}
 use mathlib.Core.Path.{_≡_}
 use Prim.Native.Nat.{ℕ}
 use Rattle.std.specs.Of.Vec.{vec-items}
@@ -10,7 +9,8 @@ use Rattle.std.specs.declared.result.Result.the-variants.{Ok, Err}
 use Rattle.std.specs.declared.vec.Vec.{Vec}
 use Rattle.std.specs.declared.alloc.Global.{Global}
 use Rattle.journal.specs.declared.writes.Write.{Write}
-use Rattle.journal.specs.Meaning.{Meaning, taken, step, replay}
+use Rattle.journal.specs.Laws.{Leads}
+use Rattle.journal.specs.Meaning.{Meaning}
 use Rattle.area_journal.specs.declared.areas.AreaJournal.{AreaJournal}
 use Rattle.area_journal.specs.declared.faults.OpenFault.{OpenFault}
 use Rattle.area_journal.specs.Opening.{fault}
@@ -31,13 +31,7 @@ abbrev pub Again : Meaning → Result AreaJournal (Vec ℕ Global × OpenFault) 
 Again m (Ok j) = meaningOf (bytesOf j) ≡ m
 Again m (Err e) = ⊥
 
--- the writes of a list are all taken, one after another
-abbrev pub allTaken : Meaning → List Write → Bool
-allTaken m [] = true
-allTaken m (w ∷ ws) = taken w m && allTaken (step w m) ws
-
 -- a list of writes may lie behind a journal where some meaning takes them all and then is the journal's
 pub record Behind (present : Meaning) (ws : List Write) : Type 0 where
   pub start : Meaning
-  pub all : allTaken start ws ≡ true
-  pub end : replay start ws ≡ present
+  pub leads : Leads start ws present

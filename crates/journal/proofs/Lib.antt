@@ -1,3 +1,4 @@
+pub mod Histories
 pub mod Grows
 pub mod Newest
 pub mod Ballots

@@ -15,6 +15,11 @@ abbrev pub allTaken : Meaning → List Write → Bool
 allTaken m [] = true
 allTaken m (w ∷ ws) = taken w m && allTaken (after w m) ws
 
+-- a list of writes, all taken, leads from one meaning to another
+pub record Leads (from : Meaning) (ws : List Write) (m : Meaning) : Type 0 where
+  pub all : allTaken from ws ≡ true
+  pub end : replay from ws ≡ m
+
 -- what the newest put into slot n left, or e where there was none
 abbrev pub newest : ℕ → Entry → List Write → Entry
 newest n e [] = e

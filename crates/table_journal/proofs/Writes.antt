@@ -10,28 +10,29 @@ use Rattle.std.proofs.shelf.Tests.{le-leb, lt-leb, lt-ltb, le-ltb, eq-eqb, ne-e
 use Rattle.std.proofs.shelf.Ways.{tells}
 use Rattle.command.specs.declared.Command.{Command}
 use Rattle.command.specs.Commands.{wellFormed}
-use Rattle.journal.specs.Meaning.{Meaning, blank, settledCount, taken, after, step, wrote, replay}
+use Rattle.journal.proofs.Histories.{step-taken, step-untaken, leads-more}
+use Rattle.journal.specs.Laws.{Leads}
+use Rattle.journal.specs.Meaning.{Meaning, blank, settledCount, taken, after, step, wrote}
 use Rattle.journal.specs.Windows.{inWindow, putAt}
 use Rattle.journal.specs.declared.writes.Write.{Write}
 use Rattle.journal.specs.declared.writes.Write.the-variants.{Promise, Put, Settle}
-use Rattle.table_journal.proofs.Replays.{step-taken, step-untaken, replay-step}
 
 -- what a write owes that answers r and leads from m to next, where lists of writes start at from
 pub record Written (from m next : Meaning) (w : Write) (r : Bool) : Type 0 where
   pub answer : r ≡ taken w m
   pub after : next ≡ step w m
-  pub behind : (ws : List Write) → replay from ws ≡ m → replay from (ws ++ wrote w m) ≡ next
+  pub behind : (ws : List Write) → Leads from ws m → Leads from (ws ++ wrote w m) next
 
 pub written-taken : (from m next : Meaning) (w : Write) → taken w m ≡ true → next ≡ after w m
     → Written from m next w true
 written-taken from m next w t e =
     let s : next ≡ step w m = e ∙ sym (step-taken w m t) in
-    record { answer = sym t; after = s; behind = λ ws h. replay-step from m next w ws s h }
+    record { answer = sym t; after = s; behind = λ ws h. leads-more from m next w ws s h }
 
 pub written-untaken : (from m : Meaning) (w : Write) → taken w m ≡ false → Written from m m w false
 written-untaken from m w t =
     let s : m ≡ step w m = sym (step-untaken w m t) in
-    record { answer = sym t; after = s; behind = λ ws h. replay-step from m m w ws s h }
+    record { answer = sym t; after = s; behind = λ ws h. leads-more from m m w ws s h }
 
 pub promise-taken : (b : ℕ) (m : Meaning) → m .promised ≤ b → taken (Promise b) m ≡ true
 unfolding taken

@@ -5,7 +5,8 @@ use mathlib.Core.Path.{_≡_}
 use Prim.Native.Nat.{ℕ, _≤_}
 use lib.Dec.{eqb, leb}
 use Rattle.std.specs.Of.Vec.{vec-items}
-use Rattle.journal.specs.Meaning.{Meaning, fresh, replay}
+use Rattle.journal.specs.Laws.{Leads}
+use Rattle.journal.specs.Meaning.{Meaning, fresh}
 use Rattle.journal.specs.declared.writes.Write.{Write}
 use Rattle.table_journal.specs.declared.tables.TableJournal.{TableJournal}
 use Rattle.table_journal.specs.declared.refusals.TableRefusal.{TableRefusal}
@@ -21,9 +22,9 @@ tableMeaning t =
       places = t .places;
     }
 
--- the lists of writes that lead from a new journal with as many slots to what the table stands for
+-- the lists of writes, all taken, that lead from a new journal with as many slots to what the table stands for
 abbrev pub tableBehind : TableJournal → List Write → Type 0
-tableBehind t ws = replay (fresh (t .capacity)) ws ≡ tableMeaning t
+tableBehind t ws = Leads (fresh (t .capacity)) ws (tableMeaning t)
 
 -- how many slots so many records make
 abbrev pub slotsOf : ℕ → ℕ
