@@ -1,5 +1,7 @@
 //! The archive file of a year: written once, read for decades.
 
+#![tactic(auto)]
+
 mod entries;
 mod lists;
 mod reading;

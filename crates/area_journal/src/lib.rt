@@ -1,5 +1,7 @@
 //! A journal in an area of bytes that is handed in with any content.
 
+#![tactic(auto)]
+
 mod areas;
 mod asking;
 mod checking;

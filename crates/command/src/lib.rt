@@ -1,5 +1,7 @@
 //! Commands of the list of changes, sets of directors, and the chain of directors that counts for each slot.
 
+#![tactic(auto)]
+
 mod chains;
 mod enough;
 mod membership;

@@ -1,5 +1,7 @@
 //! Prints a journal's byte area for a maintainer.
 
+#![tactic(auto)]
+
 mod demo;
 mod text;
 

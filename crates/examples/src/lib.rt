@@ -1,5 +1,7 @@
 //! Worked examples of the rules, proved together about the definitions that the contracts use.
 
+#![tactic(auto)]
+
 ghost use Rattle.examples.specs.Examples.{Examples};
 ghost use Rattle.std.specs.Prelude.{◌≡◌};
 

@@ -1,5 +1,7 @@
 //! What a director's journal means: what survives a power cut. Every journal keeps to this meaning.
 
+#![tactic(auto)]
+
 mod writes;
 
 ghost use Rattle.std.specs.Prelude.{◌≡◌, ℕ, ◌≤◌, List, ◌++◌, length};

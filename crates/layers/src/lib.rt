@@ -1,5 +1,7 @@
 //! Layers over any machine: each is a machine itself, and decides which commands go lower.
 
+#![tactic(auto)]
+
 mod freezing;
 mod once;
 mod stacks;

@@ -1,5 +1,7 @@
 //! The text form of a year's list of changes: read into a chain and its commands, and written back.
 
+#![tactic(auto)]
+
 mod cuts;
 mod entries;
 mod faults;

@@ -1,5 +1,7 @@
 //! A layer over any journal that keeps a list of its writes, for tests and simulations.
 
+#![tactic(auto)]
+
 mod keeping;
 mod logged;
 mod logs;

@@ -1,5 +1,7 @@
 //! Machines: what a list of commands leads to. Every machine is a state with a start and a rule.
 
+#![tactic(auto)]
+
 mod denials;
 mod leases;
 mod ledgers;

@@ -1,6 +1,8 @@
 //! Numbers in areas of bytes, the lowest byte first: the building blocks of every stored format.
 //! Each asks that its part lies within the area; the formats above test that first and refuse.
 
+#![tactic(auto)]
+
 ghost use Rattle.std.specs.Prelude.{◌≡◌, ◌+◌, ◌≤◌, [], ◌∷◌, length};
 ghost use Rattle.octets.specs.Areas.{part, over};
 ghost use Rattle.octets.specs.Numbers.{le, num};

@@ -1,6 +1,8 @@
 //! The protocol by which directors agree on one list of commands: its messages, its refusals, the slot window, what each
 //! call does, what a run is, and that directors agree in every run.
 
+#![tactic(auto)]
+
 mod kinds;
 mod laws;
 mod messages;

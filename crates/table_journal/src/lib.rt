@@ -1,5 +1,7 @@
 //! A journal in memory: a table of records that are all taken when it is made.
 
+#![tactic(auto)]
+
 mod journals;
 mod making;
 mod refusals;

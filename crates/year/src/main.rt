@@ -1,5 +1,7 @@
 //! Seals a year's list of changes into an archive file, and reads it back.
 
+#![tactic(auto)]
+
 mod demo;
 mod jobs;
 mod show;

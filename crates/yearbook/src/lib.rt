@@ -1,5 +1,7 @@
 //! A year's list from its text to its archive file, and back.
 
+#![tactic(auto)]
+
 mod faults;
 mod reads;
 mod seals;

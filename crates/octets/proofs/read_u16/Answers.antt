@@ -7,4 +7,4 @@ use Rattle.octets.proofs.read_u16.Goals as goal
 pub returns : goal.returns
 returns c =
     let e = ap num (part_two c.args.at c.args.area.now c.requires) in
-    omega (arith, c.from-le-bytes.ensures)
+    omega (arith, c.from_le_bytes.ensures)
