@@ -1,5 +1,5 @@
 -- An add or a remove that has an effect: what the chain is then, and that it is a chain again.
-use Rattle.std.proofs.Common.{◌≡◌, ℕ, ◌+◌, ◌<◌, ◌≤◌, Bool, true, false, cond, not, ◌&&◌, ltb, ◌⊎◌, List, [], ◌∷◌, ◌++◌, length, sym, refl, ap, ◌∙◌, ap₂, inl, inr, arith}
+use Rattle.std.proofs.Common.{◌≡◌, ℕ, ◌<◌, ◌≤◌, true, false, List, [], ◌∷◌, ◌++◌, length, inl, inr, arith}
 use Rattle.std.proofs.lemmas.Bool.{cond-true, and_from, lt-ltb, not_from_false, both_ways, cases_Bool}
 use Rattle.std.proofs.lemmas.List.{length_push}
 use Rattle.command.specs.Sets.{has, with_director}

@@ -1,11 +1,11 @@
 -- The quorum test: what it counts, and that two enough sets meet.
-use Rattle.std.proofs.Common.{◌≡◌, ℕ, zero, suc, ◌+◌, ◌*◌, ◌^◌, ◌<◌, ◌≤◌, Bool, true, false, cond, not, ◌&&◌, ◌||◌, eqb, ltb, leb, List, [], ◌∷◌, ◌++◌, length, sym, refl, ap, ◌∙◌, ap₂, arith}
+use Rattle.std.proofs.Common.{◌≡◌, ℕ, suc, ◌+◌, ◌*◌, ◌^◌, ◌<◌, Bool, true, false, cond, eqb, leb, List, [], ◌∷◌, length, refl, ap, ◌∙◌, arith}
 use lib.Bits.{bit_and, bit_or, and_zero_r}
 use lib.Count.{ones}
 use Rattle.std.proofs.lemmas.Bool.{ltb-true, or_left, or_right, eq-eqb, cond-true, le-leb, both_ways}
 use Rattle.command.specs.Sets.{has, with_director, with_all, set_of}
 use Rattle.command.specs.Members.{is_member, different_directors}
-use Rattle.command.specs.Quorums.{votes, enough, Shared, QuorumsMeet}
+use Rattle.command.specs.Quorums.{votes, Shared, QuorumsMeet}
 use Rattle.command.proofs.Bits.{ones_joined, has_other, has_nothing}
 use Rattle.command.proofs.Lists.{head_parts}
 

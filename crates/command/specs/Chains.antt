@@ -1,5 +1,5 @@
 -- The chain that counts for each slot, from the founding chain and the settled commands.
-use Rattle.std.specs.Prelude.{ℕ, ◌-◌, Bool, cond, List, [], ◌∷◌, length, take, Some, None, Ok, Err, Option, Result}
+use Rattle.std.specs.Prelude.{ℕ, ◌-◌, cond, List, [], ◌∷◌, take, Some, None, Ok, Err, Option, Result}
 use Rattle.command.specs.declared.Command.{Command}
 use Rattle.command.specs.declared.Verb.{Verb}
 use Rattle.command.specs.declared.Verb.TheVariants.{Noop, Add, Remove, Change}

@@ -1,4 +1,4 @@
-use Rattle.std.proofs.Common.{◌≡◌, ℕ, ◌*◌, ltb, length, take, sym, refl, ap, ◌∙◌, ap₂, arith}
+use Rattle.std.proofs.Common.{◌≡◌, ℕ, ◌*◌, ltb, length, take, sym, ap, ◌∙◌, ap₂, arith}
 use lib.Bits.{bit_and}
 use lib.Count.{ones}
 use Rattle.std.proofs.lemmas.List.{length-take-le}
