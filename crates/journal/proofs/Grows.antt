@@ -1,7 +1,7 @@
 -- Whatever is written, promises never fall and settled lists only grow.
-use Rattle.std.proofs.Common.{◌≡◌, ℕ, ◌+◌, ◌≤◌, Bool, true, false, cond, List, [], ◌∷◌, ◌++◌, length, take, sym, refl, ap, ◌∙◌, le_trans, arith}
+use Rattle.std.proofs.Common.{◌≡◌, ◌≤◌, Bool, true, false, cond, List, [], ◌∷◌, take, sym, refl, ap, ◌∙◌, le_trans, arith}
 use Rattle.std.proofs.lemmas.Bool.{leb-true}
-use Rattle.std.proofs.lemmas.List.{take_at, take_all, take-take, length-append, take-append-le}
+use Rattle.std.proofs.lemmas.List.{take_at, take_all, take-take, length-append}
 use Rattle.journal.specs.declared.writes.Write.{Write}
 use Rattle.journal.specs.declared.writes.Write.TheVariants.{Promise, Put, Settle}
 use Rattle.journal.specs.Meaning.{Meaning, settled_count, taken, after, step, replay}

@@ -1,5 +1,5 @@
 -- The open entry of a slot that is not settled is what the newest put into it left.
-use Rattle.std.proofs.Common.{◌≡◌, ℕ, ◌+◌, ◌%◌, ◌<◌, ◌≤◌, max, Bool, true, false, cond, ◌&&◌, ◌||◌, eqb, ltb, leb, ◌⊎◌, List, [], ◌∷◌, ◌++◌, length, get_or, take, set, sym, refl, ap, ◌∙◌, subst, inl, inr, arith, length-set}
+use Rattle.std.proofs.Common.{◌≡◌, ℕ, ◌+◌, ◌%◌, ◌<◌, ◌≤◌, true, ◌&&◌, eqb, ltb, leb, List, [], ◌∷◌, length, get_or, set, sym, refl, ap, ◌∙◌, subst, inl, inr, arith, length-set}
 use Rattle.std.proofs.lemmas.Bool.{and_parts, and_from, and_right, cond-true, cond-false, eqb-true, leb-true, ltb-true, lt-ltb, le-leb, lt-leb, eq-eqb, ne_eqb, cases_lt, cases_eq}
 use Rattle.std.proofs.lemmas.List.{get_or-set_same, get_or-set_other, get_or-replicate, length-append}
 use Rattle.command.specs.declared.Command.{Command}
@@ -9,7 +9,7 @@ use Rattle.journal.specs.declared.writes.Write.{Write}
 use Rattle.journal.specs.declared.writes.Write.TheVariants.{Promise, Put, Settle}
 use Rattle.journal.specs.Windows.{in_window, element_at, place_of}
 use Rattle.journal.specs.Meaning.{Meaning, settled_count, fresh, blank, open_of, taken, after, step, replay}
-use Rattle.journal.specs.Laws.{all_taken, newest, highest, was_put}
+use Rattle.journal.specs.Laws.{all_taken, newest}
 
 -- what was told of each slot so far: it stands in the open entries, and past the window nothing was
 record Holds (m : Meaning) (e : ℕ → Entry) : Type 0 where
@@ -21,15 +21,13 @@ record Holds (m : Meaning) (e : ℕ → Entry) : Type 0 where
 abbrev tells : Write → (ℕ → Entry) → ℕ → Entry
 tells w e n = newest n (e n) (w ∷ [])
 
-pub record PutParts (k b : ℕ) (c : Command) (m : Meaning) : Type 0 where
+pub record PutParts (k b : ℕ) (m : Meaning) : Type 0 where
   pub ballot : b ≡ m.promised
   pub some : 1 ≤ b
   pub low : settled_count m < k
   pub high : k ≤ settled_count m + 8
-  pub fits : k ≤ m.capacity
-  pub formed : well_formed c ≡ true
 
-pub put_parts : (k b : ℕ) (c : Command) (m : Meaning) → taken (Put k b c) m ≡ true → PutParts k b c m
+pub put_parts : (k b : ℕ) (c : Command) (m : Meaning) → taken (Put k b c) m ≡ true → PutParts k b m
 unfolding taken
 put_parts k b c m t =
     let p = settled_count m in
@@ -43,9 +41,20 @@ put_parts k b c m t =
       some = leb-true 1 b u.1;
       low = ltb-true p k v.0;
       high = leb-true k (p + 8) v.1;
-      fits = leb-true k m.capacity r.1;
-      formed = q.1;
     }
+
+-- a put that is taken fits the capacity, with a well-formed command
+pub record PutFits (k : ℕ) (c : Command) (m : Meaning) : Type 0 where
+  pub fits : k ≤ m.capacity
+  pub formed : well_formed c ≡ true
+
+pub put_fits : (k b : ℕ) (c : Command) (m : Meaning) → taken (Put k b c) m ≡ true → PutFits k c m
+unfolding taken
+put_fits k b c m t =
+    let p = settled_count m in
+    let q = and_parts (eqb b m.promised && leb 1 b && in_window p k && leb k m.capacity) (well_formed c) t in
+    let r = and_parts (eqb b m.promised && leb 1 b && in_window p k) (leb k m.capacity) q.0 in
+    record { fits = leb-true k m.capacity r.1; formed = q.1 }
 
 -- two slots of one window have two places
 apart : (n k p : ℕ) → p < n → n ≤ p + 8 → p < k → k ≤ p + 8 → (k ≡ n → ⊥) → (n % 8 ≡ k % 8 → ⊥)

@@ -1,5 +1,5 @@
 -- The meaning of a journal: what it tells, which writes it takes, and what they change.
-use Rattle.std.specs.Prelude.{◌≡◌, ℕ, ◌+◌, ◌-◌, ◌≤◌, Bool, true, false, cond, ◌&&◌, List, [], ◌∷◌, ◌++◌, length, replicate, ◌==◌, nat_le, nat_lt, slice_index_or}
+use Rattle.std.specs.Prelude.{◌≡◌, ℕ, ◌+◌, ◌-◌, ◌≤◌, Bool, cond, ◌&&◌, List, [], ◌∷◌, ◌++◌, length, replicate, ◌==◌, nat_le, nat_lt, slice_index_or}
 use Rattle.command.specs.declared.Command.{Command}
 use Rattle.command.specs.Commands.{well_formed}
 use Rattle.journal.specs.declared.writes.Entry.{Entry}

@@ -11,7 +11,7 @@ use Rattle.journal.specs.Windows.{in_window, element_at, place_of}
 use Rattle.journal.specs.Meaning.{Meaning, settled_count, fresh, blank, open_of, taken, after, step, replay}
 use Rattle.journal.specs.Laws.{all_taken, Leads, newest, highest}
 use Rattle.journal.proofs.Histories.{step_taken}
-use Rattle.journal.proofs.Newest.{put_parts, open_newest}
+use Rattle.journal.proofs.Newest.{put_parts, put_fits, open_newest}
 use Rattle.journal.proofs.Ballots.{newest_highest}
 use Rattle.journal.proofs.Grows.{leads}
 
@@ -99,6 +99,7 @@ bounds_head : (n b : ℕ) (c : Command) (ws : List Write) (m : Meaning) → take
 unfolding after
 bounds_head n b c ws m t =
     let q = put_parts n b c m t in
+    let f = put_fits n b c m t in
     let g = leads ws (after (Put n b c) m) in
     let k = replay_capacity ws (after (Put n b c) m) in
     let r : m.promised ≤ (replay (after (Put n b c) m) ws).promised = g.promised in
@@ -108,8 +109,8 @@ bounds_head n b c ws m t =
       promised = omega (arith, q.ballot);
       first = omega (arith, q.low);
       near = omega (arith, q.high);
-      fits = omega (arith, q.fits);
-      formed = q.formed;
+      fits = omega (arith, f.fits);
+      formed = f.formed;
     }
 
 bounds_in : (ws : List Write) (m : Meaning) (n b : ℕ) (c : Command) → all_taken m ws ≡ true → Has ws (Put n b c)

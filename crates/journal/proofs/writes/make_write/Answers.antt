@@ -1,5 +1,5 @@
-use Rattle.std.proofs.Common.{◌≡◌, List, ◌++◌, sym, ap, ◌∙◌, subst}
-use Rattle.journal.specs.Meaning.{Meaning, taken, step, wrote}
+use Rattle.std.proofs.Common.{◌++◌, sym, ap, ◌∙◌, subst}
+use Rattle.journal.specs.Meaning.{taken, step, wrote}
 use Rattle.journal.specs.declared.writes.Write.{Write}
 use Rattle.journal.proofs.Laws.{journal_laws}
 use Rattle.journal.proofs.writes.make_write.Goals as goal
