@@ -1,12 +1,12 @@
 -- Going through the entries: it finds just the commands whose entries the bytes are.
-use Rattle.std.proofs.Common.{◌≡◌, ℕ, zero, suc, ◌+◌, ◌-◌, ◌<◌, ◌≤◌, Bool, true, false, cond, eqb, List, [], ◌∷◌, ◌++◌, length, take, drop, Some, None, Option, sym, refl, ap, ◌∙◌, ap₂, arith}
+use Rattle.std.proofs.Common.{◌≡◌, ℕ, zero, suc, ◌+◌, ◌-◌, ◌<◌, ◌≤◌, Bool, true, false, cond, eqb, List, [], ◌∷◌, ◌++◌, length, Some, None, sym, refl, ap, ◌∙◌, ap₂, arith}
 use Rattle.std.specs.List.{AllByRecursion as All}
 use Rattle.std.proofs.lemmas.Bool.{cond-true, cond-false, ne_eqb, eq-eqb, eqb-false}
 use Rattle.std.proofs.ByRecursion.{All-drop}
 use Rattle.std.proofs.lemmas.List.{length-drop, drop_at, take-append-drop}
 use Rattle.octets.proofs.Numbers.{Bytes}
 use Rattle.command.specs.declared.Command.{Command}
-use Rattle.command.specs.Commands.{well_formed, verb_of, Sized}
+use Rattle.command.specs.Commands.{well_formed, Sized}
 use Rattle.archive.specs.Layout.{entry, entries}
 use Rattle.archive.specs.Reading.{size_of, command_of, rest, Found, found, and_then, scan, scan_all}
 use Rattle.archive.proofs.OneEntry.{reread, rewritten}
