@@ -1,6 +1,6 @@
 -- With space for the longest entries, only their number can be refused.
 use Rattle.std.proofs.Common.{◌≡◌, ℕ, suc, ◌+◌, ◌*◌, ◌≤◌, true, cond, ltb, leb, List, [], ◌∷◌, length, Some, None, Option, sym, refl, ap, ◌∙◌, inl, inr, arith}
-use Rattle.std.specs.List.{AllByRecursion as All}
+use Rattle.std.specs.List.{AllByRecursion}
 use Rattle.std.proofs.lemmas.Bool.{le-leb, lt-leb, le-ltb, cases_lt, cond-true, cond-false}
 use Rattle.octets.specs.Areas.{over}
 use Rattle.octets.proofs.Areas.{length_over}
@@ -30,7 +30,7 @@ add_full area o c w l =
     cond-true (well_formed c) _ (Some IllFormed) w
     ∙ cond-false (ltb o.count most) _ (Some Full) (le-ltb o.count most l)
 
-adds : (cs : List Command) (area : List ℕ) (o : OpenArchive) → All (λ c. well_formed c ≡ true) cs → o.count ≤ most
+adds : (cs : List Command) (area : List ℕ) (o : OpenArchive) → AllByRecursion (λ c. well_formed c ≡ true) cs → o.count ≤ most
     → o.at + length cs * (7 + serial_bytes) + 2 ≤ length area
     → adds_refusal area o (o.count + 1) cs ≡ cond (leb (o.count + length cs) most) None
     (Some (refused (most + 1) Full))
