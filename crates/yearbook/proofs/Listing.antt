@@ -1,14 +1,14 @@
 -- What is known of a list that was read from a text, and of the text that is written of a file.
-use Rattle.std.proofs.Common.{◌≡◌, ℕ, ◌+◌, ◌-◌, ◌*◌, ◌^◌, ◌<◌, ◌≤◌, Bool, true, false, cond, leb, List, [], ◌∷◌, length, Some, None, Ok, Err, Option, Result, sym, refl, ap, ◌∙◌, subst, ap₂, arith}
+use Rattle.std.proofs.Common.{◌≡◌, ℕ, ◌+◌, Bool, true, false, cond, leb, List, [], ◌∷◌, length, Some, None, Ok, Err, Option, Result, sym, refl, ap, ◌∙◌, subst, arith}
 use Rattle.std.specs.List.{AllByRecursion}
 use Rattle.command.specs.declared.Command.{Command}
 use Rattle.command.specs.Commands.{well_formed, Sized}
 use Rattle.command.specs.Members.{Membership, valid_chain, founded}
-use Rattle.archive.specs.Layout.{layout, Archive, most}
+use Rattle.archive.specs.Layout.{most}
 use Rattle.archive.specs.Reading.{fault, members_of, scanned}
 use Rattle.archive.specs.Readers.{Exact}
 use Rattle.listing.specs.declared.faults.Fault.{Fault}
-use Rattle.listing.specs.declared.faults.Fault.TheVariants.{InvalidChain, IllFormed, Unreadable}
+use Rattle.listing.specs.declared.faults.Fault.TheVariants.{InvalidChain, IllFormed}
 use Rattle.listing.specs.Law.{Listable}
 use Rattle.listing.specs.Reading.{read_entry, read_chain, before, judged, entries_from, listed, chained, read_lines}
 use Rattle.listing.specs.Reading.{read_text, Listed}

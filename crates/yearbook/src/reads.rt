@@ -22,7 +22,7 @@ pub fn text_of(heap: Global, file: &[u8]) -> Result<String, ReadFault>
 // Appends the lines of the entries that are to come.
 fn write_entries(text: &mut String, entries: Entries) -> Result<(), Fault>
     ensures { OnOk result (string_bytes text.new
-        ≡ string_bytes text.old ++ lines_left entries) }
+        ≡ string_bytes text.old ++ lines_left entries.entry) }
 {
     let mut left = entries;
     while let Some(command) = left.next_command() {

@@ -1,7 +1,6 @@
-use Rattle.std.proofs.Common.{◌≡◌, ℕ, List, [], ◌∷◌, ◌++◌, length, string_bytes, sym, refl, ap, ◌∙◌, ap₂, append_assoc, append-nil, arith}
+use Rattle.std.proofs.Common.{ℕ, List, ◌++◌, length, string_bytes, sym, ap, ◌∙◌, ap₂, append_assoc, append-nil, arith}
 use Rattle.archive.specs.Reading.{rest, scan_all}
 use Rattle.listing.specs.Writing.{entries_text, ending, line_of}
-use Rattle.yearbook.specs.Years.{lines_left}
 use Rattle.yearbook.proofs.Lines.{lines_end, lines_more, shorter}
 use Rattle.yearbook.proofs.reads.write_entries.Goals as goal
 

@@ -1,4 +1,4 @@
-use Rattle.std.proofs.Common.{◌≡◌, ℕ, ◌≤◌, Bool, true, false, cond, List, length, take, replicate, Some, None, vec_items, sym, refl, ap, ◌∙◌, subst, ap₂, arith}
+use Rattle.std.proofs.Common.{◌≡◌, ℕ, ◌≤◌, Bool, true, false, cond, List, length, take, Some, None, vec_items, sym, ◌∙◌, subst, ap₂, arith}
 use Rattle.std.proofs.lemmas.Result.{err_from_is_err_and}
 use Rattle.std.proofs.lemmas.List.{with_items_is}
 use Rattle.archive.proofs.Scans.{some_none}
@@ -29,7 +29,7 @@ returns-in_err-sealed c =
     let space : space_for (length c.args.members.now) (length c.args.commands.now) ≤ length
     c.as_mut_slice.result.now =
     let n = space-is _ c.in-Some.space _ c.in-Some.ensures in
-    let m = c.in_ok-area.ensures.made in
+    let m = c.in_ok-area.ensures.len in
     omega arith in
     rw (p.1, p.2)
     (overfull c.args.commands.now _
