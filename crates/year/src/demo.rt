@@ -37,7 +37,7 @@ pub(crate) fn run(rt: &HostRuntime) -> anyhow::Result<()> {
     let Ok(text) = text_of(heap, file.as_slice()) else {
         return jobs::fail(rt, "year: the file was refused");
     };
-    if text != LIST {
+    if text.as_str() != LIST {
         return jobs::fail(rt, "year: the text is not what was sealed");
     }
     println!(rt; "its text is the text that was sealed")?;

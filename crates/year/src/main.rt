@@ -8,26 +8,35 @@ mod show;
 mod words;
 
 use std::env;
+use std::process::ExitCode;
 
 const USAGE: &str =
     "year: usage: year | year seal LIST FILE | year read FILE | year show FILE [ledger]";
 
-fn main(rt: HostRuntime) -> anyhow::Result<()> {
-    let mut given = env::args(&rt)?;
+// What went wrong was said where it was found, so that an error only sets the status.
+fn main(rt: HostRuntime) -> ExitCode {
+    match run(&rt) {
+        Ok(()) => ExitCode::SUCCESS,
+        Err(_) => ExitCode::FAILURE,
+    }
+}
+
+fn run(rt: &HostRuntime) -> anyhow::Result<()> {
+    let mut given = env::args(rt)?;
     let _program = given.next();
     let Some(job) = given.next() else {
-        return demo::run(&rt);
+        return demo::run(rt);
     };
     let Some(first) = given.next() else {
-        return jobs::fail(&rt, USAGE);
+        return jobs::fail(rt, USAGE);
     };
     let second = given.next();
     if given.next().is_some() {
-        return jobs::fail(&rt, USAGE);
+        return jobs::fail(rt, USAGE);
     }
     match second {
-        None => on_one(&rt, job.as_str(), first.as_str()),
-        Some(second) => on_two(&rt, job.as_str(), first.as_str(), second.as_str()),
+        None => on_one(rt, job.as_str(), first.as_str()),
+        Some(second) => on_two(rt, job.as_str(), first.as_str(), second.as_str()),
     }
 }
 
