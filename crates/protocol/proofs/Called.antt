@@ -1,26 +1,23 @@
 -- Every call that is not refused keeps what is known.
-use Rattle.std.proofs.Common.{◌≡◌, ℕ, ◌+◌, ◌≤◌, Bool, true, false, cond, not, eqb, ltb, leb, ◌⊎◌, List, [], ◌∷◌, ◌++◌, length, Some, None, Ok, Err, Option, Result, sym, refl, ap, ◌∙◌, subst, inl, inr, ⊎_elim, arith}
-use Rattle.std.specs.List.{ContainsAt as Has, AllByRecursion as All}
+use Rattle.std.proofs.Common.{◌≡◌, ℕ, ◌+◌, ◌≤◌, Bool, true, false, cond, List, [], ◌∷◌, Some, None, Ok, Err, Option, Result, sym, refl, ap, ◌∙◌, subst, ⊎_elim, arith}
+use Rattle.std.specs.List.{AllByRecursion as All}
 use Rattle.std.proofs.ByRecursion.{has_push_cases}
 use Rattle.std.proofs.lemmas.Bool.{not-false}
 use Rattle.command.specs.declared.Command.{Command}
-use Rattle.command.specs.declared.sets.DirectorSet.{DirectorSet}
 use Rattle.command.specs.Commands.{well_formed}
 use Rattle.command.specs.Members.{Membership}
-use Rattle.journal.specs.declared.writes.Entry.{Entry}
-use Rattle.journal.specs.declared.writes.Write.{Write}
 use Rattle.protocol.specs.declared.messages.Message.{Message}
 use Rattle.protocol.specs.declared.refusals.Refusal.{Refusal}
 use Rattle.protocol.specs.Desks.{Role, following, standing, State, Desk, Outcome, send, become, with_role, cleared}
-use Rattle.protocol.specs.Messages.{kind_of, malformed, fetch as fetchOf}
+use Rattle.protocol.specs.Messages.{fetch as fetchOf}
 use Rattle.protocol.specs.Calls.{lengthened, submitted, fetched, restarted}
-use Rattle.protocol.specs.Refusing.{Call, submit, stand, pump, prod, fetch, hear, restart, done, is_restart, stale_as}
+use Rattle.protocol.specs.Refusing.{Call, submit, stand, pump, prod, fetch, hear, restart, done, is_restart}
 use Rattle.protocol.specs.Refusing.{reasons, topmost, refusal, unless, outcome}
 use Rattle.protocol.specs.Runs.{writes_of}
 use Rattle.protocol.proofs.Votes.{Past, count}
 use Rattle.protocol.proofs.Core.{Core}
 use Rattle.protocol.proofs.Writing.{upd}
-use Rattle.protocol.proofs.Knowing.{Fact, Leader, KnowsRole, Knows}
+use Rattle.protocol.proofs.Knowing.{Fact, KnowsRole, Knows}
 use Rattle.protocol.proofs.Going.{desk, Good, Went, went_still, Throughout}
 use Rattle.protocol.proofs.Stands.{went_stand, good_cleared}
 use Rattle.protocol.proofs.Pumps.{went_pump}

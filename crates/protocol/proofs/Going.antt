@@ -1,13 +1,13 @@
 -- What a step keeps, and that one step after another keeps it.
-use Rattle.std.proofs.Common.{◌≡◌, ℕ, zero, suc, ◌+◌, ◌<◌, ◌≤◌, Bool, true, false, cond, List, [], ◌∷◌, ◌++◌, length, take, sym, refl, ap, ◌∙◌, subst, append_assoc}
+use Rattle.std.proofs.Common.{◌≡◌, ℕ, zero, suc, Bool, true, false, cond, List, [], ◌∷◌, ◌++◌, take, sym, refl, ap, ◌∙◌, subst, append_assoc}
 use Rattle.std.specs.List.{AllByRecursion as All}
 use Rattle.std.proofs.ByRecursion.{All-append, All-weaker}
 use Rattle.command.specs.declared.Command.{Command}
 use Rattle.command.specs.Members.{Membership}
 use Rattle.journal.specs.declared.writes.Write.{Write}
-use Rattle.journal.specs.Meaning.{Meaning, taken, step, wrote, replay}
+use Rattle.journal.specs.Meaning.{Meaning, taken, wrote, replay}
 use Rattle.protocol.specs.declared.messages.Message.{Message}
-use Rattle.protocol.specs.Desks.{State, Desk, Outcome, Step, left, both, go_on, quiet, write, send, become, choose}
+use Rattle.protocol.specs.Desks.{State, Desk, Outcome, Step, left, both, go_on, quiet, write, choose}
 use Rattle.protocol.specs.Desks.{repeat, ◌▸◌}
 use Rattle.protocol.proofs.Votes.{Past}
 use Rattle.protocol.proofs.Growing.{Grew, grew_same, grew_trans, grew_one, plus, plus_one, plus_none, plus_append}

@@ -1,28 +1,24 @@
 -- What a director tells of its settled slots and open entries is true; and what it passes on again.
-use Rattle.std.proofs.Common.{◌≡◌, ℕ, zero, suc, ◌+◌, ◌-◌, ◌<◌, ◌≤◌, min, Bool, true, false, cond, ◌&&◌, eqb, leb, List, [], ◌∷◌, map, length, get_or, sym, refl, ap, ◌∙◌, subst, arith}
+use Rattle.std.proofs.Common.{◌≡◌, ℕ, zero, suc, ◌+◌, ◌-◌, ◌<◌, ◌≤◌, min, Bool, true, false, cond, ◌&&◌, eqb, leb, List, [], ◌∷◌, length, get_or, sym, refl, ap, ◌∙◌, subst, arith}
 use Rattle.std.specs.List.{flat_map, AllByRecursion as All}
 use Rattle.std.proofs.ByRecursion.{All-map, All-append}
 use Rattle.std.proofs.lemmas.List.{get_or-map, length-map}
 use Rattle.std.proofs.lemmas.Bool.{and_parts, leb-true, eqb-true, cond-false, ne_eqb}
 use Rattle.command.specs.declared.Command.{Command}
-use Rattle.command.specs.declared.sets.DirectorSet.{DirectorSet}
 use Rattle.command.specs.Members.{Membership}
-use Rattle.command.specs.Sets.{has, with_director}
 use Rattle.journal.specs.declared.writes.Entry.{Entry}
 use Rattle.journal.specs.Meaning.{noop, blank, open_of, settled_of}
 use Rattle.journal.specs.Windows.{span}
-use Rattle.protocol.specs.declared.messages.Message.{Message}
 use Rattle.protocol.specs.Lists.{up_from}
 use Rattle.protocol.specs.Desks.{Role, following, standing, State, itself, ack_of, send}
 use Rattle.protocol.specs.Messages.{owner, learn, promise as promiseOf}
 use Rattle.protocol.specs.Rings.{open_at, window, passed}
-use Rattle.protocol.specs.Calls.{addressed, prepares, asked_again, known_set, passed_again, ask_again, send_again, prodded}
+use Rattle.protocol.specs.Calls.{asked_again, known_set, passed_again, ask_again, send_again, prodded}
 use Rattle.protocol.specs.Hearing.{learns, entries_from}
 use Rattle.protocol.proofs.Votes.{Past, Voted, VotedAt, Lawful, promise, count, vote_bounds, vote_top, open_vote, open_past}
-use Rattle.protocol.proofs.Growing.{plus}
 use Rattle.protocol.proofs.Core.{Settled}
 use Rattle.protocol.proofs.Writing.{upd, upd_here, lawful_here}
-use Rattle.protocol.proofs.Knowing.{AllVoted, Told, Fact, Promises, Learns}
+use Rattle.protocol.proofs.Knowing.{AllVoted, Told, Fact}
 use Rattle.protocol.proofs.Going.{desk, Good, Went, went_still, went_then}
 use Rattle.protocol.proofs.Sets.{has_alone}
 use Rattle.protocol.proofs.Passes.{passed_facts}

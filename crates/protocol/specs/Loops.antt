@@ -1,7 +1,6 @@
 -- "As long as" means as long as: eight turns are enough for each loop, so that its test fails after them.
 use Rattle.std.specs.Prelude.{◌≡◌, ℕ, ◌+◌, ◌<◌, ◌≤◌, true, false, List, length}
 use Rattle.std.specs.List.{AllByRecursion as All}
-use Rattle.command.specs.declared.Command.{Command}
 use Rattle.command.specs.Commands.{well_formed}
 use Rattle.journal.specs.declared.writes.Write.{Write}
 use Rattle.journal.specs.Laws.{Leads}
