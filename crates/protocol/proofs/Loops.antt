@@ -1,6 +1,6 @@
 -- Eight turns are enough for each loop.
 use Rattle.std.proofs.Common.{◌≡◌, ℕ, zero, suc, ◌+◌, ◌*◌, ◌%◌, ◌<◌, ◌≤◌, Bool, true, false, cond, not, eqb, ltb, leb, List, [], ◌∷◌, ◌++◌, length, get_or, drop, set, Some, None, count_by, Option, sym, refl, ap, ◌∙◌, subst, inl, inr, arith, length-set}
-use Rattle.std.specs.List.{ContainsAt as Has, AllByRecursion as All}
+use Rattle.std.specs.List.{ContainsAt as Has, AllByRecursion}
 use Rattle.std.proofs.ByRecursion.{All-drop, All-weaker, all_has_itself}
 use Rattle.std.proofs.lemmas.List.Sums.{count_by-le-length, sum_by-set}
 use Rattle.std.proofs.lemmas.Bool.{and_parts, cases_Bool, both_ways, ltb-true, le-leb, ne_eqb, not_from_false, not_from_true, eqb-true, eqb-false, eq-eqb}
@@ -201,7 +201,8 @@ command_formed : (d : Desk) (n : ℕ) (c : Command) (r : Role) → settled_by d 
 command_formed d n c following above near s e = let z : ◌≡◌ {A = ℕ} 0 1 = cc in absurd (omega arith)
 command_formed d n c (standing q line reports) above near s e = go (is_unreported n reports) refl e
   where
-    head : (line : List Command) → All (λ c. well_formed c ≡ true) line → head_of line ≡ Some c → well_formed c ≡ true
+    head : (line : List Command) → AllByRecursion (λ c. well_formed c ≡ true) line → head_of line ≡ Some c
+        → well_formed c ≡ true
     head [] a e = let z : ◌≡◌ {A = ℕ} 0 1 = cc in absurd (omega arith)
     head (i ∷ line) a e = let same : i ≡ c = cc in ap well_formed (sym same) ∙ a.0
 
@@ -219,7 +220,7 @@ role_fed : (d e : Desk) (n : ℕ) (r : Role) → promised d ≡ promised e → s
 role_fed d e n following is at s = tt
 role_fed d e n (standing q line reports) is at s = (
   subst (λ (b : ℕ). 1 ≤ b) is s.0,
-  elim (is_unreported n reports) as (λ t. All (λ c. well_formed c ≡ true) (cond t (drop 1 line) line))
+  elim (is_unreported n reports) as (λ t. AllByRecursion (λ c. well_formed c ≡ true) (cond t (drop 1 line) line))
       [ true ↦ All-drop (λ c. well_formed c ≡ true) 1 line s.1 | false ↦ s.1 ],
   λ j above near. s.2 j (omega arith) (omega arith),
 )

@@ -1,6 +1,6 @@
 -- Promising a ballot, standing, and starting again keep what is known.
 use Rattle.std.proofs.Common.{◌≡◌, ℕ, ◌+◌, ◌*◌, ◌/◌, ◌%◌, ◌<◌, ◌≤◌, Bool, true, false, cond, ltb, List, [], ◌∷◌, length, filter, sym, refl, ap, ◌∙◌, subst, ⊎_elim, arith}
-use Rattle.std.specs.List.{AllByRecursion as All}
+use Rattle.std.specs.List.{AllByRecursion}
 use Rattle.std.proofs.ByRecursion.{All-map, All-from_get_or, has_push_cases}
 use Rattle.std.proofs.lemmas.List.{get_or-replicate}
 use Rattle.std.proofs.lemmas.Bool.{le-leb, ltb-true, ltb-false}
@@ -50,7 +50,7 @@ lowest_own d b h =
     lowest c above own false e = let l = ltb-false b (b / 32 * 32 + d) e in omega arith
 
 -- PREPAREs tell nothing that could be false
-pub prepares_facts : (R : ℕ → Past) (named : ℕ → Bool) (d : Desk) → All (Fact R) (prepares named d)
+pub prepares_facts : (R : ℕ → Past) (named : ℕ → Bool) (d : Desk) → AllByRecursion (Fact R) (prepares named d)
 unfolding prepares
 prepares_facts R named d =
     All-map (Fact R) (λ e. prepare (me d) e (promised d) (count_of d + 1)) (filter named (up_from 0 32))
