@@ -1,29 +1,28 @@
 -- Hearing an ACCEPT or an ACKED keeps what is known.
-use Rattle.std.proofs.Common.{◌≡◌, ℕ, zero, suc, ◌+◌, ◌<◌, ◌≤◌, Bool, true, false, cond, not, ◌&&◌, ◌||◌, eqb, ltb, leb, ◌⊎◌, List, [], ◌∷◌, ◌++◌, length, sym, refl, ap, ◌∙◌, subst, inl, inr, ⊎_elim, arith, length-set}
+use Rattle.std.proofs.Common.{◌≡◌, ℕ, zero, suc, ◌+◌, ◌<◌, ◌≤◌, Bool, true, false, cond, not, ◌||◌, eqb, ltb, leb, List, [], ◌∷◌, ◌++◌, sym, refl, ◌∙◌, subst, ⊎_elim, arith, length-set}
 use lib.Bits.{bit_or}
 use Rattle.std.proofs.ByRecursion.{has_push}
 use Rattle.std.proofs.lemmas.Bool.{eqb-true, leb-true, leb-false, ltb-false, or_parts}
 use Rattle.command.specs.declared.Command.{Command}
 use Rattle.command.specs.Commands.{well_formed}
 use Rattle.command.specs.Members.{Membership, is_member}
-use Rattle.command.specs.Sets.{has, with_director}
+use Rattle.command.specs.Sets.{with_director}
 use Rattle.journal.specs.declared.writes.Write.{Write}
 use Rattle.journal.specs.declared.writes.Write.TheVariants.{Put, Settle}
 use Rattle.journal.specs.Meaning.{Meaning, open_of, settled_of, taken, after, step, wrote, replay}
 use Rattle.journal.specs.Windows.{span, place_of}
 use Rattle.protocol.specs.declared.messages.Acknowledged.{Acknowledged}
 use Rattle.protocol.specs.declared.messages.Message.{Message}
-use Rattle.protocol.specs.Desks.{Role, State, Desk, Outcome, Step, none, ack_of, with_role, with_ack, write, become, send}
-use Rattle.protocol.specs.Desks.{quiet, choose, repeat, ◌▸◌, go_on, left, both, settled_by, me, promised, forget}
+use Rattle.protocol.specs.Desks.{State, Desk, Step, none, ack_of, with_ack, write, become, send}
+use Rattle.protocol.specs.Desks.{quiet, choose, repeat, ◌▸◌, go_on, left, both, settled_by, me, promised}
 use Rattle.protocol.specs.Messages.{owner, learn}
 use Rattle.protocol.specs.Rings.{pass_on, chain_of, open_at}
 use Rattle.protocol.specs.Settling.{settle, settle_open, advance, told_settled, catch_up}
 use Rattle.protocol.specs.Hearing.{obey, acknowledging, outside, vote, heard_accept, heard_acked}
 use Rattle.protocol.proofs.Votes.{Past, Voted, VotedAt, promise, count, open_past}
-use Rattle.protocol.proofs.Growing.{Grew, one_is, plus, plus_one, written, replay_append}
-use Rattle.protocol.proofs.Core.{Core}
+use Rattle.protocol.proofs.Growing.{one_is, plus, plus_one, written, replay_append}
 use Rattle.protocol.proofs.Writing.{upd, Grows, upd_grows, core_accept}
-use Rattle.protocol.proofs.Knowing.{AllVoted, all_voted_grows, Told, told_grows, Accepts, accepts_grow, Knows, KnowsRole}
+use Rattle.protocol.proofs.Knowing.{AllVoted, all_voted_grows, Told, told_grows, Accepts, accepts_grow, Knows}
 use Rattle.protocol.proofs.Going.{desk, Good, Went, write_is, went_one, went_after, went_then, went_choose, went_quiet}
 use Rattle.protocol.proofs.Going.{went_still, through_grew, steps_assoc}
 use Rattle.protocol.proofs.Places.{placed_same}
@@ -181,7 +180,8 @@ module _ (f : Membership) (S : Command → Type 0) (P : ℕ → Past) (d : ℕ) 
       (λ e.
       went_choose f S P d x s (outside n) quiet (vote m) (λ o. went_quiet f S P d x s good)
       (λ o.
-      let p = or_parts (ltb (count x + 8) n || ltb x.journal.capacity n) (not (is_member s.number (chain_of (desk x s) n))) o in
+      let p = or_parts (ltb (count x + 8) n || ltb x.journal.capacity n)
+      (not (is_member s.number (chain_of (desk x s) n))) o in
       let q = or_parts (ltb (count x + 8) n) (ltb x.journal.capacity n) p.0 in
       went_vote is some formed (leb-false n (count x) e) (ltb-false (count x + 8) n q.0)
       (ltb-false x.journal.capacity n q.1) fact))

@@ -1,24 +1,21 @@
 -- A director settles what is open in its next slot: because enough acknowledged it, or because the ballot's owner has
 -- settled it.
-use Rattle.std.proofs.Common.{◌≡◌, ℕ, ◌+◌, ◌<◌, ◌≤◌, Bool, true, false, cond, ◌&&◌, eqb, ltb, List, [], ◌∷◌, length, sym, refl, ap, ◌∙◌, subst, arith}
-use Rattle.std.proofs.lemmas.Bool.{and_parts, and_from, lt-ltb, ltb-true, eqb-true}
+use Rattle.std.proofs.Common.{◌≡◌, ℕ, ◌+◌, ◌<◌, ◌≤◌, true, eqb, ltb, List, sym, ap, ◌∙◌, subst, arith}
+use Rattle.std.proofs.lemmas.Bool.{and_parts, ltb-true, eqb-true}
 use Rattle.command.specs.declared.Command.{Command}
-use Rattle.command.specs.Commands.{well_formed}
 use Rattle.command.specs.Members.{Membership}
 use Rattle.command.specs.Quorums.{enough}
-use Rattle.command.specs.Sets.{has}
 use Rattle.journal.specs.declared.writes.Entry.{Entry}
-use Rattle.journal.specs.declared.writes.Write.TheVariants.{Settle}
-use Rattle.journal.specs.Meaning.{settled_count, open_of, taken}
+use Rattle.journal.specs.Meaning.{open_of}
 use Rattle.journal.specs.Windows.{span}
 use Rattle.protocol.specs.declared.messages.Message.{Message}
 use Rattle.protocol.specs.Desks.{Role, following, standing, State, ack_of}
 use Rattle.protocol.specs.Messages.{owner}
-use Rattle.protocol.specs.Rings.{chain_of, open_at}
+use Rattle.protocol.specs.Rings.{chain_of}
 use Rattle.protocol.specs.Settling.{settle_open, backed, advance, told_settled, catch_up}
 use Rattle.protocol.proofs.Votes.{Past, Voted, Bounds, Lawful, promise, count, vote_bounds, vote_top, open_vote}
-use Rattle.protocol.proofs.Growing.{Grew, chain}
-use Rattle.protocol.proofs.Core.{By, by_some, Settled, Chosen, Core, one_chain}
+use Rattle.protocol.proofs.Growing.{chain}
+use Rattle.protocol.proofs.Core.{By, by_some, Settled, Chosen, one_chain}
 use Rattle.protocol.proofs.Writing.{upd, upd_here, upd_grows, lawful_here}
 use Rattle.protocol.proofs.Knowing.{AllVoted, Accepts, accepts_grow}
 use Rattle.protocol.proofs.Going.{desk, Good, Went, went_repeat}

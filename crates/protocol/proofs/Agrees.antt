@@ -1,36 +1,34 @@
 -- Directors agree in every run.
-use Rattle.std.proofs.Common.{◌≡◌, ℕ, ◌+◌, ◌<◌, ◌≤◌, Bool, true, false, cond, ◌⊎◌, List, [], ◌∷◌, ◌++◌, length, get_or, take, Some, None, Ok, Err, Result, sym, refl, ap, ◌∙◌, subst, inl, inr, ⊎_elim, append_assoc, append-nil, arith}
-use Rattle.std.specs.List.{ContainsAt as Has, AllByRecursion as All}
+use Rattle.std.proofs.Common.{◌≡◌, ℕ, ◌+◌, ◌≤◌, Bool, true, false, cond, List, [], ◌∷◌, ◌++◌, length, take, Some, None, Ok, sym, refl, ap, ◌∙◌, subst, inl, inr, ⊎_elim, append_assoc, append-nil, arith}
+use Rattle.std.specs.List.{ContainsAt as Has}
 use Rattle.std.proofs.ByRecursion.{all-has, has_push}
 use Rattle.std.proofs.lemmas.List.{length-append, nil_from_length}
-use Rattle.std.proofs.lemmas.Bool.{both_ways, cases_lt, cases_Bool}
+use Rattle.std.proofs.lemmas.Bool.{both_ways, cases_lt}
 use Rattle.archive.specs.Layout.{layout}
 use Rattle.command.specs.declared.Command.{Command}
 use Rattle.command.specs.Chains.{chain_for}
 use Rattle.command.specs.Members.{Membership, founded}
 use Rattle.journal.specs.declared.writes.Write.{Write}
-use Rattle.journal.specs.Meaning.{Meaning, noop, fresh, replay}
+use Rattle.journal.specs.Meaning.{noop, fresh, replay}
 use Rattle.machine.specs.Rules.{after}
-use Rattle.protocol.specs.declared.messages.Message.{Message}
-use Rattle.protocol.specs.declared.refusals.Refusal.{Refusal}
 use Rattle.protocol.specs.Lists.{Begins}
 use Rattle.protocol.specs.Desks.{State, Desk, Outcome, become}
 use Rattle.protocol.specs.Calls.{restarted, submitted}
 use Rattle.protocol.specs.Refusing.{Call, submit, stand, pump, prod, fetch, hear, restart, is_restart, done, refusal}
 use Rattle.protocol.specs.Refusing.{unless, outcome}
-use Rattle.protocol.specs.Replies.{Make, for_machine, ran, settled_in, machine_after}
+use Rattle.protocol.specs.Replies.{for_machine, ran, settled_in}
 use Rattle.protocol.specs.Runs.{Seat, journal_of, desk_of, Cluster, World, new_seat, beginning, Ending, accepted, refused, cut}
-use Rattle.protocol.specs.Runs.{Event, seat_after, writes_of, seat_cut, Recalls, with_seat, Possible, Next, accepts, refuses}
-use Rattle.protocol.specs.Runs.{cuts, Happens, Goes, stays, goes, Run}
-use Rattle.protocol.specs.Agreement.{settled_list, chain_at, file_of, led_to, Submitted, Level, Agree, DirectorsAgree}
-use Rattle.protocol.proofs.Votes.{Past, Voted, count, has_none}
+use Rattle.protocol.specs.Runs.{Event, seat_after, writes_of, seat_cut, Recalls, Possible, Next, accepts, refuses}
+use Rattle.protocol.specs.Runs.{cuts, Goes, stays, goes, Run}
+use Rattle.protocol.specs.Agreement.{settled_list, Level, Agree, DirectorsAgree}
+use Rattle.protocol.proofs.Votes.{Past, Voted, has_none}
 use Rattle.protocol.proofs.Growing.{begins_same, begins_trans, plus, replay_append}
 use Rattle.protocol.proofs.Core.{Core, Settled, by_some, list_begins}
 use Rattle.protocol.proofs.Writing.{upd}
 use Rattle.protocol.proofs.Knowing.{Fact, Knows}
-use Rattle.protocol.proofs.Going.{desk, Throughout, through_cut, Went}
+use Rattle.protocol.proofs.Going.{Throughout, through_cut, Went}
 use Rattle.protocol.proofs.Stands.{good_cleared}
-use Rattle.protocol.proofs.Called.{Before, Accepted, accepted_is, went_call, through_call}
+use Rattle.protocol.proofs.Called.{Before, accepted_is, went_call, through_call}
 use Rattle.protocol.proofs.Machines.{ran_state, ran_more, by_settled}
 use Rattle.protocol.proofs.Worlds.{past_of, pasts, Known, Inv, inv_more, pasts_here, Seated, inv_with, lists_grow}
 

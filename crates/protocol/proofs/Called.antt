@@ -1,26 +1,23 @@
 -- Every call that is not refused keeps what is known.
-use Rattle.std.proofs.Common.{◌≡◌, ℕ, ◌+◌, ◌≤◌, Bool, true, false, cond, not, eqb, ltb, leb, ◌⊎◌, List, [], ◌∷◌, ◌++◌, length, Some, None, Ok, Err, Option, Result, sym, refl, ap, ◌∙◌, subst, inl, inr, ⊎_elim, arith}
-use Rattle.std.specs.List.{ContainsAt as Has, AllByRecursion as All}
+use Rattle.std.proofs.Common.{◌≡◌, ℕ, ◌+◌, ◌≤◌, Bool, true, false, cond, List, [], ◌∷◌, Some, None, Ok, Err, Option, Result, sym, refl, ap, ◌∙◌, subst, ⊎_elim, arith}
+use Rattle.std.specs.List.{AllByRecursion}
 use Rattle.std.proofs.ByRecursion.{has_push_cases}
 use Rattle.std.proofs.lemmas.Bool.{not-false}
 use Rattle.command.specs.declared.Command.{Command}
-use Rattle.command.specs.declared.sets.DirectorSet.{DirectorSet}
 use Rattle.command.specs.Commands.{well_formed}
 use Rattle.command.specs.Members.{Membership}
-use Rattle.journal.specs.declared.writes.Entry.{Entry}
-use Rattle.journal.specs.declared.writes.Write.{Write}
 use Rattle.protocol.specs.declared.messages.Message.{Message}
 use Rattle.protocol.specs.declared.refusals.Refusal.{Refusal}
 use Rattle.protocol.specs.Desks.{Role, following, standing, State, Desk, Outcome, send, become, with_role, cleared}
-use Rattle.protocol.specs.Messages.{kind_of, malformed, fetch as fetchOf}
+use Rattle.protocol.specs.Messages.{fetch as fetchOf}
 use Rattle.protocol.specs.Calls.{lengthened, submitted, fetched, restarted}
-use Rattle.protocol.specs.Refusing.{Call, submit, stand, pump, prod, fetch, hear, restart, done, is_restart, stale_as}
+use Rattle.protocol.specs.Refusing.{Call, submit, stand, pump, prod, fetch, hear, restart, done, is_restart}
 use Rattle.protocol.specs.Refusing.{reasons, topmost, refusal, unless, outcome}
 use Rattle.protocol.specs.Runs.{writes_of}
 use Rattle.protocol.proofs.Votes.{Past, count}
 use Rattle.protocol.proofs.Core.{Core}
 use Rattle.protocol.proofs.Writing.{upd}
-use Rattle.protocol.proofs.Knowing.{Fact, Leader, KnowsRole, Knows}
+use Rattle.protocol.proofs.Knowing.{Fact, KnowsRole, Knows}
 use Rattle.protocol.proofs.Going.{desk, Good, Went, went_still, Throughout}
 use Rattle.protocol.proofs.Stands.{went_stand, good_cleared}
 use Rattle.protocol.proofs.Pumps.{went_pump}
@@ -28,18 +25,19 @@ use Rattle.protocol.proofs.Tells.{went_prod}
 use Rattle.protocol.proofs.Hears.{went_hear}
 
 -- where no reason is told, none holds
-none_holds : (rs : List (Bool × Refusal)) → topmost rs ≡ None → All (λ r. r.0 ≡ false) rs
+none_holds : (rs : List (Bool × Refusal)) → topmost rs ≡ None → AllByRecursion (λ r. r.0 ≡ false) rs
 none_holds [] e = tt
 none_holds (r ∷ rs) e = go r.0 refl e (none_holds rs)
   where
     go : (t : Bool) → r.0 ≡ t → cond t (Some r.1) (topmost rs) ≡ None
-        → (topmost rs ≡ None → All (λ r. r.0 ≡ false) rs) → (r.0 ≡ false) × All (λ r. r.0 ≡ false) rs
+        → (topmost rs ≡ None → AllByRecursion (λ r. r.0 ≡ false) rs)
+        → (r.0 ≡ false) × AllByRecursion (λ r. r.0 ≡ false) rs
     go true h e more = let z : ◌≡◌ {A = ℕ} 0 1 = cc in absurd (omega arith)
     go false h e more = (h, more e)
 
 -- an accepted call had no reason to be refused, and did what it should
 pub record Accepted (call : Call) (places : ℕ) (d : Desk) (o : Outcome) : Type 0 where
-  pub sound : All (λ r. r.0 ≡ false) (reasons call places d)
+  pub sound : AllByRecursion (λ r. r.0 ≡ false) (reasons call places d)
   pub is : done call d ≡ o
 
 pub accepted_is : (call : Call) (places : ℕ) (d : Desk) (o : Outcome) → outcome call places d ≡ Ok o
@@ -108,7 +106,8 @@ module _ (f : Membership) (S : Command → Type 0) (P : ℕ → Past) (d : ℕ) 
     pub known : (c : Command) → call ≡ submit c → S c
     pub fact : (m : Message) → call ≡ hear m → Fact (upd P d x) m
 
-  went_done : (call : Call) (places : ℕ) → Before call → All (λ r. r.0 ≡ false) (reasons call places (desk x s))
+  went_done : (call : Call) (places : ℕ) → Before call
+      → AllByRecursion (λ r. r.0 ≡ false) (reasons call places (desk x s))
       → Went f S P d x (done call (desk x s))
   went_done (submit c) places b sound =
       went_submit (record { core = b.core; knows = b.knows refl }) c (b.known c refl)

@@ -1,12 +1,12 @@
--- What holds of all journals together, and that settled lists agree by it. Of quorums only one fact is used: two sets that
--- are enough for one chain share a member.
-use Rattle.std.proofs.Common.{◌≡◌, ℕ, zero, suc, ◌+◌, ◌-◌, ◌<◌, ◌≤◌, Bool, true, false, cond, ◌⊎◌, List, [], ◌∷◌, ◌++◌, length, get_or, take, sym, refl, ap, ◌∙◌, subst, inl, inr, ⊎_elim, arith}
+-- What holds of all journals together, and that settled lists agree by it. Of quorums only one fact is used: two sets
+-- that are enough for one chain share a member.
+use Rattle.std.proofs.Common.{◌≡◌, ℕ, zero, suc, ◌+◌, ◌-◌, ◌<◌, ◌≤◌, true, ◌⊎◌, List, length, get_or, take, sym, refl, ap, ◌∙◌, subst, inl, inr, arith}
 use Rattle.std.proofs.lemmas.List.Prefix.{front_from_reads}
 use Rattle.std.proofs.lemmas.List.{ext_get_or, length-take-le, get_or-take, get_or_append_left}
-use Rattle.std.proofs.lemmas.Bool.{cases_lt, cases_order}
+use Rattle.std.proofs.lemmas.Bool.{cases_order}
 use Rattle.command.specs.declared.Command.{Command}
 use Rattle.command.specs.Chains.{after_all}
-use Rattle.command.specs.Members.{Membership, is_member}
+use Rattle.command.specs.Members.{Membership}
 use Rattle.command.specs.Quorums.{enough}
 use Rattle.command.specs.Sets.{has}
 use Rattle.command.proofs.Count.{quorums_meet}
@@ -14,7 +14,7 @@ use Rattle.journal.specs.Meaning.{noop}
 use Rattle.protocol.specs.Lists.{Begins}
 use Rattle.protocol.specs.Messages.{owner}
 use Rattle.protocol.proofs.Votes.{Past, Voted, Lawful, promise, count, vote_bounds}
-use Rattle.protocol.proofs.Growing.{Grew, chain, chain_grew}
+use Rattle.protocol.proofs.Growing.{Grew, chain}
 
 -- enough members of a chain for each of which something holds
 pub record By (ms : List ℕ) (Q : ℕ → Type 0) : Type 0 where
@@ -84,7 +84,8 @@ module _ (f : Membership) (S : Command → Type 0) (P : ℕ → Past) (core : Co
   chosen_safe : (n b k : ℕ) (c i : Command) (ms : List ℕ) → 1 ≤ b → b < k → By ms (λ e. Voted (P e) n b c)
       → SafeAt P n k i ms → c ≡ i
   chosen_safe n b k c i ms some lower chosen safe =
-      let m = by_meet ms (λ e. Voted (P e) n b c) (λ e. Voted (P e) n b i ⊎ Passed (P e) n b) chosen (safe b some lower) in
+      let m = by_meet ms (λ e. Voted (P e) n b c) (λ e. Voted (P e) n b i ⊎ Passed (P e) n b) chosen
+      (safe b some lower) in
       elim m.2 [
         | inl v ↦ core.unique m.0 m.0 n b c i m.1 v
         | inr p ↦ absurd (p.1 c m.1)

@@ -1,5 +1,5 @@
 -- The concrete runs, by computation.
-use Rattle.std.proofs.Common.{◌≡◌, ℕ, ◌-◌, ◌≤◌, Bool, true, false, not, ◌&&◌, leb, List, [], ◌∷◌, ◌++◌, length, get_or, Ok, Err, Result, sym, refl, ap, ◌∙◌, subst, append_assoc, append-nil, arith}
+use Rattle.std.proofs.Common.{◌≡◌, ℕ, ◌-◌, Bool, true, false, not, ◌&&◌, leb, List, [], ◌∷◌, ◌++◌, length, get_or, Ok, Err, Result, sym, refl, ap, subst, append_assoc, append-nil, arith}
 use Rattle.std.specs.List.{ContainsAt as Has}
 use Rattle.std.proofs.ByRecursion.{has_get_or}
 use Rattle.std.proofs.lemmas.Bool.{and_parts, leb-true, not-true, both_ways}
@@ -15,7 +15,7 @@ use Rattle.protocol.specs.Calls.{pumped}
 use Rattle.protocol.specs.Hearing.{obey, learns, heard_prepare, heard_promise, outside, vote, heard_accept, heard_acked, heard}
 use Rattle.protocol.specs.Refusing.{Call, submit, stand, pump, prod, fetch, hear, restart, refusal, outcome, table_places}
 use Rattle.protocol.specs.Replies.{ran}
-use Rattle.protocol.specs.Runs.{World, Cluster, Event, accepted, beginning, desk_of, Possible, Next, accepts, Happens, Goes}
+use Rattle.protocol.specs.Runs.{World, Cluster, Event, accepted, beginning, desk_of, Next, accepts, Happens, Goes}
 use Rattle.protocol.specs.Runs.{stays, goes}
 use Rattle.protocol.specs.Examples.{Act, calls, hears, director_of, call_in, leads, result, world_after, events_of, three}
 use Rattle.protocol.specs.Examples.{settling, changing, removing, Reached, Changed, Removed, RunsThereAre}
@@ -91,7 +91,8 @@ does_all k from (a ∷ rest) es w g h =
     let v : World = leads k w (director_of a) (call_in w a) (result w a) in
     let e : Event = record { director = director_of a; call = call_in w a; places = table_places; ending = accepted } in
     let p = and_parts (may_do w a) (may_do_all k v rest) h in
-    subst (λ (l : List Event). Goes k.make from l (world_after k v rest)) (append_assoc es (e ∷ []) (events_of k v rest))
+    subst (λ (l : List Event). Goes k.make from l (world_after k v rest))
+    (append_assoc es (e ∷ []) (events_of k v rest))
     (does_all k from rest (es ++ (e ∷ [])) v (goes e g (does k w a p.0)) p.1)
 
 reached : (acts : List Act) (Q : World → Type 0) → may_do_all three (beginning three) acts ≡ true
@@ -100,10 +101,10 @@ reached acts Q may holds =
     record { run = does_all three (beginning three) acts [] (beginning three) stays may; holds = holds }
 
 pub runs_there_are : RunsThereAre
-unfolding may_do_all may_do numbered is_hear is_accepted outcome refusal malformed left both go_on quiet write send become repeat
-    taken after step wrote marked next passed pass_on settle settle_open backed advance told_settled catch_up submitted
-    addressed prepares stood lowest_free may_put proposal propose propose_all pumped obey learns heard_prepare heard_promise
-    outside vote heard_accept heard_acked heard ran
+unfolding may_do_all may_do numbered is_hear is_accepted outcome refusal malformed left both go_on quiet write send
+    become repeat taken after step wrote marked next passed pass_on settle settle_open backed advance told_settled
+    catch_up submitted addressed prepares stood lowest_free may_put proposal propose propose_all pumped obey learns
+    heard_prepare heard_promise outside vote heard_accept heard_acked heard ran
 runs_there_are =
     record {
       settles = reached settling Changed refl (record { lists = (refl, refl, refl); pools = (refl, refl, refl) });

@@ -1,13 +1,13 @@
 -- What a step keeps, and that one step after another keeps it.
-use Rattle.std.proofs.Common.{◌≡◌, ℕ, zero, suc, ◌+◌, ◌<◌, ◌≤◌, Bool, true, false, cond, List, [], ◌∷◌, ◌++◌, length, take, sym, refl, ap, ◌∙◌, subst, append_assoc}
-use Rattle.std.specs.List.{AllByRecursion as All}
+use Rattle.std.proofs.Common.{◌≡◌, ℕ, zero, suc, Bool, true, false, cond, List, [], ◌∷◌, ◌++◌, take, sym, refl, ap, ◌∙◌, subst, append_assoc}
+use Rattle.std.specs.List.{AllByRecursion}
 use Rattle.std.proofs.ByRecursion.{All-append, All-weaker}
 use Rattle.command.specs.declared.Command.{Command}
 use Rattle.command.specs.Members.{Membership}
 use Rattle.journal.specs.declared.writes.Write.{Write}
-use Rattle.journal.specs.Meaning.{Meaning, taken, step, wrote, replay}
+use Rattle.journal.specs.Meaning.{Meaning, taken, wrote, replay}
 use Rattle.protocol.specs.declared.messages.Message.{Message}
-use Rattle.protocol.specs.Desks.{State, Desk, Outcome, Step, left, both, go_on, quiet, write, send, become, choose}
+use Rattle.protocol.specs.Desks.{State, Desk, Outcome, Step, left, both, go_on, quiet, write, choose}
 use Rattle.protocol.specs.Desks.{repeat, ◌▸◌}
 use Rattle.protocol.proofs.Votes.{Past}
 use Rattle.protocol.proofs.Growing.{Grew, grew_same, grew_trans, grew_one, plus, plus_one, plus_none, plus_append}
@@ -97,19 +97,19 @@ module _ (f : Membership) (S : Command → Type 0) (P : ℕ → Past) (d : ℕ) 
   pub record Went (x : Past) (o : Outcome) : Type 0 where
     pub through : Throughout x o.writes
     pub knows : Knows f S (upd P d (plus x o.writes)) d (plus x o.writes) o.state
-    pub facts : All (Fact (upd P d (plus x o.writes))) o.messages
+    pub facts : AllByRecursion (Fact (upd P d (plus x o.writes))) o.messages
 
   pub went_good : (x : Past) (o : Outcome) → Went x o → Good (plus x o.writes) o.state
   went_good x o w = record { core = through_end o.writes x w.through; knows = w.knows }
 
   -- where nothing is written
-  pub went_still : (x : Past) (s : State) (ms : List Message) → Good x s → All (Fact (upd P d x)) ms
+  pub went_still : (x : Past) (s : State) (ms : List Message) → Good x s → AllByRecursion (Fact (upd P d x)) ms
       → Went x (record { state = s; writes = []; messages = ms })
   went_still x s ms g fs =
       record {
         through = g.core;
         knows = subst (λ (y : Past). Knows f S (upd P d y) d y s) (sym (plus_none x)) g.knows;
-        facts = subst (λ (y : Past). All (Fact (upd P d y)) ms) (sym (plus_none x)) fs;
+        facts = subst (λ (y : Past). AllByRecursion (Fact (upd P d y)) ms) (sym (plus_none x)) fs;
       }
 
   went_both : (x : Past) (o p : Outcome) → Went x o → Went (plus x o.writes) p → Went x (both o p)
@@ -124,7 +124,7 @@ module _ (f : Membership) (S : Command → Type 0) (P : ℕ → Past) (d : ℕ) 
         through = through_append o.writes p.writes x u.through v.through;
         knows = subst (λ (y : Past). Knows f S (upd P d y) d y p.state) same v.knows;
         facts =
-            subst (λ (y : Past). All (Fact (upd P d y)) (o.messages ++ p.messages)) same
+            subst (λ (y : Past). AllByRecursion (Fact (upd P d y)) (o.messages ++ p.messages)) same
             (All-append (Fact (upd P d z)) o.messages p.messages
             (All-weaker (Fact (upd P d y)) (Fact (upd P d z)) (fact_grows (upd P d y) (upd P d z) grown) o.messages
             u.facts)

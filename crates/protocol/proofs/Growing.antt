@@ -1,6 +1,5 @@
 -- How pasts grow: one write at a time.
-use Rattle.std.proofs.Common.{◌≡◌, ℕ, ◌+◌, ◌-◌, ◌<◌, ◌≤◌, Bool, true, false, cond, ◌&&◌, eqb, leb, ◌⊎◌, List, [], ◌∷◌, ◌++◌, length, take, sym, refl, ap, ◌∙◌, subst, inl, inr, ⊎_elim, append_assoc, append-nil, arith}
-use Rattle.std.specs.List.{ContainsAt as Has}
+use Rattle.std.proofs.Common.{◌≡◌, ℕ, ◌+◌, ◌-◌, ◌<◌, ◌≤◌, true, cond, ◌⊎◌, List, [], ◌∷◌, ◌++◌, length, take, sym, refl, ap, ◌∙◌, subst, inl, inr, ⊎_elim, append_assoc, append-nil, arith}
 use Rattle.std.proofs.ByRecursion.{has_push_cases, has_append_left}
 use Rattle.std.proofs.lemmas.List.{length-append, take-append-le}
 use Rattle.std.proofs.lemmas.Bool.{leb-true}
@@ -10,7 +9,7 @@ use Rattle.command.specs.Members.{Membership}
 use Rattle.journal.specs.declared.writes.Write.{Write}
 use Rattle.journal.specs.declared.writes.Write.TheVariants.{Promise, Put, Settle}
 use Rattle.journal.specs.Laws.{Leads}
-use Rattle.journal.specs.Meaning.{Meaning, settled_count, fresh, taken, after, step, wrote, replay}
+use Rattle.journal.specs.Meaning.{Meaning, fresh, taken, after, step, wrote, replay}
 use Rattle.journal.proofs.Histories.{step_taken, leads_more}
 use Rattle.journal.proofs.Newest.{put_parts}
 use Rattle.protocol.specs.Lists.{Begins}
@@ -32,8 +31,8 @@ plus_append x ws vs =
     let h = sym (append_assoc x.history ws vs) in
     λ i. record { history = h i; journal = replay_append x.journal ws vs i }
 
--- y is x with more: votes and settled slots stay, the promise does not fall, and what is new was voted with at least the
--- ballot that was promised, for a slot that was not settled
+-- y is x with more: votes and settled slots stay, the promise does not fall, and what is new was voted with at least
+-- the ballot that was promised, for a slot that was not settled
 pub record Grew (x y : Past) : Type 0 where
   pub votes : (n b : ℕ) (c : Command) → Voted x n b c → Voted y n b c
   pub newer : (n b : ℕ) (c : Command) → Voted y n b c → Voted x n b c ⊎ ((promise x ≤ b) × (count x < n))

@@ -1,8 +1,7 @@
 -- Hearing a PREPARE, a LEARN or a FETCH keeps what is known; and so does every message that is not refused.
-use Rattle.std.proofs.Common.{◌≡◌, ℕ, ◌+◌, ◌<◌, ◌≤◌, Bool, true, false, cond, not, ◌&&◌, ◌||◌, eqb, ltb, leb, ◌⊎◌, List, [], ◌∷◌, Some, None, Option, sym, refl, ap, ◌∙◌, subst, inl, inr, ⊎_elim, arith}
-use Rattle.std.proofs.lemmas.Bool.{and_parts, and_from, and_cases, not-false, eqb-true, leb-true, leb-false, lt-ltb, or_parts, eqb-false, ltb-false, eq-eqb, both_ways}
+use Rattle.std.proofs.Common.{◌≡◌, ℕ, ◌+◌, ◌≤◌, Bool, true, false, cond, not, ◌&&◌, ◌||◌, eqb, ltb, leb, [], ◌∷◌, Some, None, Option, sym, refl, ap, ◌∙◌, subst, inl, inr, arith}
+use Rattle.std.proofs.lemmas.Bool.{and_parts, and_cases, not-false, eqb-true, leb-true, leb-false, or_parts, eqb-false, ltb-false, both_ways}
 use Rattle.command.specs.declared.Command.{Command}
-use Rattle.command.specs.declared.sets.DirectorSet.{DirectorSet}
 use Rattle.command.specs.Commands.{well_formed}
 use Rattle.command.specs.Members.{Membership}
 use Rattle.journal.specs.declared.writes.Entry.{Entry}
@@ -12,18 +11,18 @@ use Rattle.protocol.specs.declared.kinds.Kind.{Kind}
 use Rattle.protocol.specs.declared.kinds.Kind.TheVariants.{Prepare, Promise, Accept, Acked, Learn, Fetch}
 use Rattle.protocol.specs.declared.messages.Message.{Message}
 use Rattle.protocol.specs.Desks.{Role, following, standing, State, Step, ◌▸◌, quiet, send, become, choose, stopped}
-use Rattle.protocol.specs.Desks.{settled_by, me, promised}
-use Rattle.protocol.specs.Messages.{kind_of, owner, is_owner, odd_sender, odd_slot, odd_command, odd_entry, odd_as, malformed}
+use Rattle.protocol.specs.Desks.{settled_by, me}
+use Rattle.protocol.specs.Messages.{kind_of, owner, is_owner, odd_sender, odd_slot, odd_command, odd_as, malformed}
 use Rattle.protocol.specs.Messages.{promise as promiseOf}
 use Rattle.protocol.specs.Settling.{settle, advance}
-use Rattle.protocol.specs.Hearing.{obey, learns, entries_from, heard_prepare, same_command, put_another, heard_learn}
+use Rattle.protocol.specs.Hearing.{learns, entries_from, heard_prepare, same_command, put_another, heard_learn}
 use Rattle.protocol.specs.Hearing.{heard_fetch, heard_as, heard}
 use Rattle.protocol.specs.Refusing.{stands_at, stands, stale_as}
-use Rattle.protocol.proofs.Votes.{Past, Voted, promise, count, vote_bounds}
-use Rattle.protocol.proofs.Growing.{Grew, chain, plus, plus_none}
+use Rattle.protocol.proofs.Votes.{Past, promise, count, vote_bounds}
+use Rattle.protocol.proofs.Growing.{chain, plus, plus_none}
 use Rattle.protocol.proofs.Core.{Chosen, one_chain}
 use Rattle.protocol.proofs.Writing.{upd, upd_here, lawful_here}
-use Rattle.protocol.proofs.Knowing.{Fact, FactAs, Learns, KnowsRole, Knows}
+use Rattle.protocol.proofs.Knowing.{Fact, FactAs, Learns}
 use Rattle.protocol.proofs.Going.{desk, Good, Went, went_after, went_then, went_choose, went_quiet, went_still}
 use Rattle.protocol.proofs.Settles.{settle_taken, Yields, went_settle}
 use Rattle.protocol.proofs.Puts.{promised_open}

@@ -1,5 +1,5 @@
 -- What a sent message tells for good, and what a director knows.
-use Rattle.std.proofs.Common.{◌≡◌, ℕ, ◌+◌, ◌-◌, ◌<◌, ◌≤◌, true, ◌⊎◌, List, [], ◌∷◌, length, get_or, Some, None, Option, inl, inr, ⊎_elim, arith}
+use Rattle.std.proofs.Common.{◌≡◌, ℕ, ◌+◌, ◌-◌, ◌<◌, ◌≤◌, true, List, length, get_or, Some, None, Option, ⊎_elim, arith}
 use Rattle.std.specs.List.{ContainsAt as Has}
 use Rattle.command.specs.declared.Command.{Command}
 use Rattle.command.specs.declared.sets.DirectorSet.{DirectorSet}
@@ -15,7 +15,7 @@ use Rattle.protocol.specs.declared.messages.Message.{Message}
 use Rattle.protocol.specs.Messages.{kind_of, owner}
 use Rattle.protocol.specs.Desks.{Role, following, standing, State, ack_of}
 use Rattle.protocol.proofs.Votes.{Past, Voted, VotedAt, promise, count}
-use Rattle.protocol.proofs.Growing.{Grew, begins_count}
+use Rattle.protocol.proofs.Growing.{begins_count}
 use Rattle.protocol.proofs.Core.{Settled, settled_grew}
 use Rattle.protocol.proofs.Writing.{Grows}
 

@@ -1,9 +1,9 @@
 -- Eight turns are enough for each loop.
-use Rattle.std.proofs.Common.{◌≡◌, ℕ, zero, suc, ◌+◌, ◌*◌, ◌%◌, ◌<◌, ◌≤◌, Bool, true, false, cond, not, ◌&&◌, eqb, ltb, leb, ◌⊎◌, List, [], ◌∷◌, ◌++◌, length, get_or, drop, set, Some, None, count_by, Option, sym, refl, ap, ◌∙◌, subst, inl, inr, ⊎_elim, arith, length-set}
-use Rattle.std.specs.List.{ContainsAt as Has, AllByRecursion as All}
+use Rattle.std.proofs.Common.{◌≡◌, ℕ, zero, suc, ◌+◌, ◌*◌, ◌%◌, ◌<◌, ◌≤◌, Bool, true, false, cond, not, eqb, ltb, leb, List, [], ◌∷◌, ◌++◌, length, get_or, drop, set, Some, None, count_by, Option, sym, refl, ap, ◌∙◌, subst, inl, inr, arith, length-set}
+use Rattle.std.specs.List.{ContainsAt as Has, AllByRecursion}
 use Rattle.std.proofs.ByRecursion.{All-drop, All-weaker, all_has_itself}
 use Rattle.std.proofs.lemmas.List.Sums.{count_by-le-length, sum_by-set}
-use Rattle.std.proofs.lemmas.Bool.{and_parts, and_from, cases_Bool, cases_lt, both_ways, ltb-true, lt-ltb, le-leb, ne_eqb, not_from_false, not_from_true, eqb-true, eqb-false, eq-eqb}
+use Rattle.std.proofs.lemmas.Bool.{and_parts, cases_Bool, both_ways, ltb-true, le-leb, ne_eqb, not_from_false, not_from_true, eqb-true, eqb-false, eq-eqb}
 use Rattle.command.specs.declared.Command.{Command}
 use Rattle.command.specs.Commands.{well_formed}
 use Rattle.command.specs.Quorums.{votes, enough}
@@ -24,7 +24,7 @@ use Rattle.protocol.specs.Lists.{head_of, is_there}
 use Rattle.protocol.specs.Calls.{is_unreported, command_for, fed, Proposal, proposal, propose, propose_any, propose_all}
 use Rattle.protocol.specs.Loops.{Sound, SoundRole, LoopsEnd}
 use Rattle.protocol.proofs.Votes.{Past, Voted, Lawful, promise, count, vote_bounds, open_vote, open_near, lawful_eight}
-use Rattle.protocol.proofs.Going.{desk, Good, write_is}
+use Rattle.protocol.proofs.Going.{desk, write_is}
 use Rattle.protocol.proofs.Settles.{settle_taken}
 use Rattle.protocol.proofs.Proposals.{Proposes, proposes as proposes-is}
 use Rattle.protocol.proofs.Pumps.{put_taken}
@@ -164,7 +164,8 @@ caught b u least d q h =
     → Taken (left (record { state = d.state; journal = m }) (settle_open (record { state = d.state; journal = m }))
     ).journal
     × (count_by entered
-    (left (record { state = d.state; journal = m }) (settle_open (record { state = d.state; journal = m }))).journal.places
+    (left (record { state = d.state; journal = m }) (settle_open (record { state = d.state; journal = m }))
+    ).journal.places
     < count_by entered m.places))
     q.2 (settled_turn x d.state q.1) (omega arith)
 
@@ -200,7 +201,8 @@ command_formed : (d : Desk) (n : ℕ) (c : Command) (r : Role) → settled_by d 
 command_formed d n c following above near s e = let z : ◌≡◌ {A = ℕ} 0 1 = cc in absurd (omega arith)
 command_formed d n c (standing q line reports) above near s e = go (is_unreported n reports) refl e
   where
-    head : (line : List Command) → All (λ c. well_formed c ≡ true) line → head_of line ≡ Some c → well_formed c ≡ true
+    head : (line : List Command) → AllByRecursion (λ c. well_formed c ≡ true) line → head_of line ≡ Some c
+        → well_formed c ≡ true
     head [] a e = let z : ◌≡◌ {A = ℕ} 0 1 = cc in absurd (omega arith)
     head (i ∷ line) a e = let same : i ≡ c = cc in ap well_formed (sym same) ∙ a.0
 
@@ -218,7 +220,7 @@ role_fed : (d e : Desk) (n : ℕ) (r : Role) → promised d ≡ promised e → s
 role_fed d e n following is at s = tt
 role_fed d e n (standing q line reports) is at s = (
   subst (λ (b : ℕ). 1 ≤ b) is s.0,
-  elim (is_unreported n reports) as (λ t. All (λ c. well_formed c ≡ true) (cond t (drop 1 line) line))
+  elim (is_unreported n reports) as (λ t. AllByRecursion (λ c. well_formed c ≡ true) (cond t (drop 1 line) line))
       [ true ↦ All-drop (λ c. well_formed c ≡ true) 1 line s.1 | false ↦ s.1 ],
   λ j above near. s.2 j (omega arith) (omega arith),
 )
@@ -332,13 +334,13 @@ proposes d s =
 sound_role : (S : Command → Type 0) (R : ℕ → Past) (n : ℕ) (x : Past) (s : State) (r : Role)
     → ((e j b : ℕ) (c : Command) → Voted (R e) j b c → well_formed c ≡ true)
     → KnowsRole S R n x r → SoundRole (desk x s) r
-sound_role S R n x s following formed k = tt
-sound_role S R n x s (standing q line reports) formed k = (
+sound_role S R n x s following bounds k = tt
+sound_role S R n x s (standing q line reports) bounds k = (
   k.some,
   All-weaker (Has line) (λ c. well_formed c ≡ true) (λ c h. (k.waiting c h).1) line (all_has_itself line),
   λ j above near least.
       let v = k.voted j above near least in
-      formed v.0 j (element_at blank reports j).ballot (element_at blank reports j).command v.1,
+      bounds v.0 j (element_at blank reports j).ballot (element_at blank reports j).command v.1,
 )
 
 sound : (k : Cluster) (es : List Event) (w : World) (d : ℕ) → Run k es w → (w.seats d).outstanding ≡ false

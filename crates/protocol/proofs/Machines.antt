@@ -1,11 +1,11 @@
 -- The machine's state follows the settled list.
-use Rattle.std.proofs.Common.{◌≡◌, ℕ, true, leb, List, [], ◌∷◌, ◌++◌, fold, sym, refl, ap, ◌∙◌, subst, append_assoc, append-nil}
+use Rattle.std.proofs.Common.{◌≡◌, ℕ, leb, List, [], ◌∷◌, ◌++◌, fold, sym, refl, ap, ◌∙◌, append_assoc, append-nil}
 use Rattle.std.proofs.lemmas.List.Elements.{filter-append}
 use Rattle.command.specs.declared.Command.{Command}
 use Rattle.command.specs.Members.{Membership}
 use Rattle.journal.specs.declared.writes.Write.{Write}
 use Rattle.journal.specs.declared.writes.Write.TheVariants.{Promise, Put, Settle}
-use Rattle.journal.specs.Meaning.{Meaning, taken, after, step, replay}
+use Rattle.journal.specs.Meaning.{Meaning, after, replay}
 use Rattle.journal.proofs.Histories.{step_taken}
 use Rattle.machine.specs.Rules.{Rule, after as ranAfter}
 use Rattle.machine.proofs.Runs.{after_append}

@@ -1,14 +1,13 @@
 -- What a director passes on is true.
-use Rattle.std.proofs.Common.{◌≡◌, ℕ, ◌≤◌, Bool, true, false, cond, List, [], ◌∷◌, Some, None, Option}
-use Rattle.std.specs.List.{AllByRecursion as All}
+use Rattle.std.proofs.Common.{ℕ, ◌≤◌, Bool, true, false, cond, Some, None, Option}
+use Rattle.std.specs.List.{AllByRecursion}
 use Rattle.command.specs.declared.Command.{Command}
 use Rattle.command.specs.declared.sets.DirectorSet.{DirectorSet}
 use Rattle.command.specs.Members.{Membership}
 use Rattle.journal.specs.declared.writes.Entry.{Entry}
 use Rattle.journal.specs.Meaning.{open_of}
-use Rattle.protocol.specs.declared.messages.Message.{Message}
 use Rattle.protocol.specs.Desks.{State, send}
-use Rattle.protocol.specs.Messages.{owner, is_owner, accept, acked}
+use Rattle.protocol.specs.Messages.{is_owner, accept, acked}
 use Rattle.protocol.specs.Rings.{next, passed_to, passed, pass_on}
 use Rattle.protocol.proofs.Votes.{Past}
 use Rattle.protocol.proofs.Writing.{upd}
@@ -37,11 +36,11 @@ module _ (f : Membership) (S : Command → Type 0) (P : ℕ → Past) (d : ℕ) 
         told = told;
       }
 
-  facts_to : (o : Option ℕ) → All (Fact (upd P d x)) (passed_to o (desk x s) n set u)
+  facts_to : (o : Option ℕ) → AllByRecursion (Fact (upd P d x)) (passed_to o (desk x s) n set u)
   facts_to None = tt
   facts_to (Some to) = (fact_to to (is_owner to entry.ballot), tt)
 
-  pub passed_facts : All (Fact (upd P d x)) (passed (desk x s) n set u)
+  pub passed_facts : AllByRecursion (Fact (upd P d x)) (passed (desk x s) n set u)
   unfolding passed
   passed_facts = facts_to (next (desk x s) n)
 

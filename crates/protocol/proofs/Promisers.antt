@@ -4,7 +4,6 @@ use Rattle.std.proofs.lemmas.Bool.{and_parts, and_cases, ltb-true, ltb-false, ca
 use Rattle.command.specs.declared.Command.{Command}
 use Rattle.command.specs.declared.sets.DirectorSet.{DirectorSet}
 use Rattle.command.specs.Members.{Membership}
-use Rattle.command.specs.Sets.{has, with_director}
 use Rattle.journal.specs.declared.writes.Entry.{Entry}
 use Rattle.journal.specs.Meaning.{blank}
 use Rattle.journal.specs.Windows.{element_at, place_of, put_at}
@@ -13,7 +12,7 @@ use Rattle.protocol.specs.Desks.{Role, following, standing, State, with_role, be
 use Rattle.protocol.specs.Hearing.{reported_in, reported, promised_by, heard_promise}
 use Rattle.protocol.proofs.Votes.{Past, Voted, promise, count}
 use Rattle.protocol.proofs.Writing.{upd}
-use Rattle.protocol.proofs.Knowing.{SomeVoted, Promises, Leader, KnowsRole, Knows}
+use Rattle.protocol.proofs.Knowing.{SomeVoted, Promises, Leader, KnowsRole}
 use Rattle.protocol.proofs.Going.{desk, Good, Went, went_still}
 use Rattle.protocol.proofs.Places.{placed_same, placed_other}
 use Rattle.protocol.proofs.Sets.{has_with}

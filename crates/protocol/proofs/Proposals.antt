@@ -1,7 +1,7 @@
 -- What a leader proposes is safe.
-use Rattle.std.proofs.Common.{◌≡◌, ℕ, zero, suc, ◌+◌, ◌<◌, ◌≤◌, Bool, true, false, cond, not, ◌&&◌, eqb, leb, ◌⊎◌, List, [], ◌∷◌, length, drop, Some, None, Option, sym, refl, ap, ◌∙◌, subst, inl, inr, ⊎_elim, arith}
+use Rattle.std.proofs.Common.{◌≡◌, ℕ, zero, suc, ◌+◌, ◌<◌, ◌≤◌, Bool, true, false, cond, not, ◌&&◌, eqb, leb, ◌⊎◌, List, [], ◌∷◌, Some, None, Option, sym, refl, ap, ◌∙◌, subst, inl, inr, ⊎_elim, arith}
 use Rattle.std.specs.List.{ContainsAt as Has}
-use Rattle.std.proofs.lemmas.Bool.{and_parts, leb-true, eqb-true, eqb-false, not-true, cases_order, cases_Bool}
+use Rattle.std.proofs.lemmas.Bool.{and_parts, leb-true, eqb-true, eqb-false, not-true, cases_order}
 use Rattle.command.specs.declared.Command.{Command}
 use Rattle.command.specs.declared.sets.DirectorSet.{DirectorSet}
 use Rattle.command.specs.Commands.{well_formed}
@@ -15,15 +15,15 @@ use Rattle.protocol.specs.Lists.{up_from, first_of, head_of}
 use Rattle.protocol.specs.Desks.{Role, following, standing, State, Desk, settled_by, promised, me}
 use Rattle.protocol.specs.Messages.{owner}
 use Rattle.protocol.specs.Rings.{chain_of, open_at, window}
-use Rattle.protocol.specs.Calls.{lowest_free, promisers, may_put, is_unreported, command_for, fed, Proposal, proposing}
+use Rattle.protocol.specs.Calls.{lowest_free, promisers, may_put, is_unreported, command_for, Proposal, proposing}
 use Rattle.protocol.specs.Calls.{proposal_for, proposal}
 use Rattle.protocol.proofs.Votes.{Past, Voted, promise, count, has_cons, has_first, has_rest, has_none}
 use Rattle.protocol.proofs.Votes.{vote_bounds, voted_at}
 use Rattle.protocol.proofs.Growing.{chain}
-use Rattle.protocol.proofs.Core.{By, Settled, Passed, SafeAt, Core, one_chain}
+use Rattle.protocol.proofs.Core.{By, Settled, Passed, SafeAt, one_chain}
 use Rattle.protocol.proofs.Writing.{upd, upd_here, lawful_here}
-use Rattle.protocol.proofs.Knowing.{SomeVoted, Told, Leader, KnowsRole}
-use Rattle.protocol.proofs.Going.{desk, Good}
+use Rattle.protocol.proofs.Knowing.{Told, Leader, KnowsRole}
+use Rattle.protocol.proofs.Going.{Good}
 use Rattle.protocol.proofs.Puts.{promised_open}
 
 -- Reading a proposal off the definitions.

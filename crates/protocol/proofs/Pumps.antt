@@ -8,25 +8,23 @@ use Rattle.command.specs.declared.sets.DirectorSet.{DirectorSet}
 use Rattle.command.specs.Commands.{well_formed}
 use Rattle.command.specs.Members.{Membership}
 use Rattle.command.specs.Quorums.{enough}
-use Rattle.command.specs.Sets.{has, with_director}
-use Rattle.journal.specs.declared.writes.Entry.{Entry}
+use Rattle.command.specs.Sets.{with_director}
 use Rattle.journal.specs.declared.writes.Write.{Write}
 use Rattle.journal.specs.declared.writes.Write.TheVariants.{Put}
-use Rattle.journal.specs.Meaning.{Meaning, settled_count, open_of, taken, after}
+use Rattle.journal.specs.Meaning.{Meaning, settled_count, taken, after}
 use Rattle.journal.specs.Windows.{in_window, span}
 use Rattle.protocol.specs.declared.messages.Acknowledged.{Acknowledged}
 use Rattle.protocol.specs.Lists.{is_there}
-use Rattle.protocol.specs.Desks.{Role, following, standing, State, Outcome, itself, with_role, with_ack, write, become, repeat}
-use Rattle.protocol.specs.Desks.{◌▸◌, quiet}
-use Rattle.protocol.specs.Messages.{owner}
+use Rattle.protocol.specs.Desks.{Role, following, standing, State, itself, with_role, with_ack, write, become}
+use Rattle.protocol.specs.Desks.{◌▸◌}
 use Rattle.protocol.specs.Rings.{pass_on}
 use Rattle.protocol.specs.Settling.{advance}
 use Rattle.protocol.specs.Calls.{promisers, is_unreported, fed, Proposal, proposal, propose, propose_any, propose_all, pumped}
 use Rattle.protocol.proofs.Votes.{Past, Voted, VotedAt, promise, count, has_rest, has_none, vote_bounds}
-use Rattle.protocol.proofs.Growing.{one_is, plus, plus_one, written, chain}
-use Rattle.protocol.proofs.Core.{Settled, SafeAt, Core}
+use Rattle.protocol.proofs.Growing.{one_is, plus_one, written, chain}
+use Rattle.protocol.proofs.Core.{SafeAt}
 use Rattle.protocol.proofs.Writing.{upd, upd_here, lawful_here, core_propose}
-use Rattle.protocol.proofs.Knowing.{AllVoted, Told, told_grows, Leader, KnowsRole, Knows}
+use Rattle.protocol.proofs.Knowing.{AllVoted, Told, told_grows, KnowsRole, Knows}
 use Rattle.protocol.proofs.Going.{desk, Good, Went, write_is, went_one, went_after, went_then, went_repeat, went_quiet}
 use Rattle.protocol.proofs.Sets.{has_alone}
 use Rattle.protocol.proofs.Puts.{promised_open, knows_put, put_grows, put_vote}
@@ -171,6 +169,7 @@ module _ (f : Membership) (S : Command → Type 0) (P : ℕ → Past) (d : ℕ) 
   unfolding pumped propose_all
   went_pump x s good =
       went_then f S P d x s propose_all advance
-      (went_repeat f S P d (λ t. is_there (proposal t)) (λ t. propose_any (proposal t) t) (λ y. Unit {0}) (λ y z h q. tt)
+      (went_repeat f S P d (λ t. is_there (proposal t)) (λ t. propose_any (proposal t) t) (λ y. Unit {0})
+      (λ y z h q. tt)
       (λ y t h q e. went_any y t h (proposal (desk y t)) refl) span x s good tt)
       (λ h. went_advance f S P d _ _ h)

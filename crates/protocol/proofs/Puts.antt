@@ -1,12 +1,11 @@
 -- Putting an entry keeps what is known.
-use Rattle.std.proofs.Common.{◌≡◌, ℕ, ◌+◌, ◌<◌, ◌≤◌, Bool, true, false, cond, ◌⊎◌, List, [], ◌∷◌, ◌++◌, length, sym, refl, ap, ◌∙◌, subst, inl, inr, ⊎_elim, arith, length-set}
+use Rattle.std.proofs.Common.{◌≡◌, ℕ, ◌+◌, ◌<◌, ◌≤◌, true, List, length, sym, ap, ◌∙◌, subst, inl, inr, ⊎_elim, arith, length-set}
 use Rattle.std.proofs.ByRecursion.{has_push, has_push_cases}
 use Rattle.std.proofs.lemmas.Bool.{cases_eq}
 use Rattle.command.specs.declared.Command.{Command}
 use Rattle.command.specs.declared.sets.DirectorSet.{DirectorSet}
 use Rattle.command.specs.Members.{Membership}
 use Rattle.journal.specs.declared.writes.Entry.{Entry}
-use Rattle.journal.specs.declared.writes.Write.{Write}
 use Rattle.journal.specs.declared.writes.Write.TheVariants.{Put}
 use Rattle.journal.specs.Meaning.{blank, open_of, taken, after}
 use Rattle.journal.specs.Windows.{element_at, place_of}
@@ -14,9 +13,9 @@ use Rattle.journal.proofs.Newest.{put_parts}
 use Rattle.protocol.specs.declared.messages.Acknowledged.{Acknowledged}
 use Rattle.protocol.specs.Desks.{Role, following, standing, State, none, ack_of, with_role, with_ack}
 use Rattle.protocol.proofs.Votes.{Past, Voted, Lawful, promise, count, vote_bounds, vote_top, open_vote}
-use Rattle.protocol.proofs.Growing.{Grew, grew_by, one_is, plus_one, written}
-use Rattle.protocol.proofs.Core.{settled_grew, Core}
-use Rattle.protocol.proofs.Writing.{upd, upd_here, Grows, upd_grows, lawful_here}
+use Rattle.protocol.proofs.Growing.{grew_by, written}
+use Rattle.protocol.proofs.Core.{settled_grew}
+use Rattle.protocol.proofs.Writing.{upd, upd_here, Grows, upd_grows}
 use Rattle.protocol.proofs.Knowing.{AllVoted, all_voted_grows, some_voted_grows, Leader, KnowsRole, Knows}
 use Rattle.protocol.proofs.Going.{Good}
 use Rattle.protocol.proofs.Places.{placed_same, placed_other}

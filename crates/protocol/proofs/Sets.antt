@@ -1,5 +1,5 @@
 -- Who is in a set that was put together.
-use Rattle.std.proofs.Common.{◌≡◌, ℕ, Bool, true, ◌⊎◌, sym, ◌∙◌, inl, inr}
+use Rattle.std.proofs.Common.{◌≡◌, ℕ, true, ◌⊎◌, sym, ◌∙◌, inl, inr}
 use lib.Bits.{bit_or}
 use Rattle.std.proofs.lemmas.Bool.{cases_eq, or_cases, both_ways}
 use Rattle.command.specs.Sets.{has, with_director}

@@ -1,8 +1,8 @@
 -- Settling keeps what is known: by acknowledgements, by what the ballot's owner has settled, or by what is learned.
-use Rattle.std.proofs.Common.{◌≡◌, ℕ, ◌+◌, ◌<◌, ◌≤◌, Bool, true, false, cond, ◌&&◌, eqb, ltb, leb, ◌⊎◌, List, [], ◌∷◌, ◌++◌, length, get_or, sym, refl, ap, ◌∙◌, subst, inl, inr, ⊎_elim, arith, length-set}
+use Rattle.std.proofs.Common.{◌≡◌, ℕ, ◌+◌, ◌<◌, ◌≤◌, true, ltb, List, [], ◌∷◌, sym, refl, ap, ◌∙◌, subst, inl, inr, ⊎_elim, arith, length-set}
 use Rattle.std.proofs.ByRecursion.{has_push_cases}
 use Rattle.std.proofs.lemmas.List.{length-append, get_or_push}
-use Rattle.std.proofs.lemmas.Bool.{and_parts, and_from, lt-ltb, ltb-true, eqb-true, cases_lt, both_ways}
+use Rattle.std.proofs.lemmas.Bool.{and_from, lt-ltb, cases_lt}
 use Rattle.command.specs.declared.Command.{Command}
 use Rattle.command.specs.declared.sets.DirectorSet.{DirectorSet}
 use Rattle.command.specs.Commands.{well_formed}
@@ -11,17 +11,16 @@ use Rattle.command.specs.Sets.{has}
 use Rattle.journal.specs.declared.writes.Entry.{Entry}
 use Rattle.journal.specs.declared.writes.Write.{Write}
 use Rattle.journal.specs.declared.writes.Write.TheVariants.{Put, Settle}
-use Rattle.journal.specs.Meaning.{Meaning, noop, blank, settled_count, open_of, taken, after}
+use Rattle.journal.specs.Meaning.{Meaning, noop, blank, settled_count, taken, after}
 use Rattle.journal.specs.Windows.{element_at, put_at, place_of}
 use Rattle.protocol.specs.declared.messages.Acknowledged.{Acknowledged}
 use Rattle.protocol.specs.Desks.{Role, following, standing, State, none, ack_of, reports_without, forget, become}
-use Rattle.protocol.specs.Messages.{owner}
-use Rattle.protocol.specs.Settling.{settle, settle_open, backed, advance, told_settled, catch_up}
-use Rattle.protocol.proofs.Votes.{Past, Voted, promise, count, vote_bounds, vote_top, open_vote}
+use Rattle.protocol.specs.Settling.{settle}
+use Rattle.protocol.proofs.Votes.{Past, Voted, promise, count}
 use Rattle.protocol.proofs.Growing.{Grew, grew_by, one_is, written, chain}
-use Rattle.protocol.proofs.Core.{By, by_more, by_some, Settled, settled_grew, Chosen, Core, one_chain}
-use Rattle.protocol.proofs.Writing.{upd, upd_here, Grows, upd_grows, core_settle, lawful_here}
-use Rattle.protocol.proofs.Knowing.{AllVoted, all_voted_grows, SomeVoted, some_voted_grows, Leader, KnowsRole, Knows, Accepts}
+use Rattle.protocol.proofs.Core.{settled_grew, Chosen}
+use Rattle.protocol.proofs.Writing.{upd, Grows, upd_grows, core_settle}
+use Rattle.protocol.proofs.Knowing.{AllVoted, all_voted_grows, SomeVoted, some_voted_grows, Leader, KnowsRole, Knows}
 use Rattle.protocol.proofs.Going.{desk, Good, Went, write_is, went_one}
 use Rattle.protocol.proofs.Places.{placed_other, placed_next}
 use Rattle.protocol.proofs.Sets.{nobody_has}

@@ -1,34 +1,32 @@
 -- Promising a ballot, standing, and starting again keep what is known.
-use Rattle.std.proofs.Common.{◌≡◌, ℕ, ◌+◌, ◌*◌, ◌/◌, ◌%◌, ◌<◌, ◌≤◌, Bool, true, false, cond, eqb, ltb, leb, ◌⊎◌, List, [], ◌∷◌, map, length, get_or, replicate, filter, sym, refl, ap, ◌∙◌, subst, inl, inr, ⊎_elim, arith}
-use Rattle.std.specs.List.{ContainsAt as Has, AllByRecursion as All}
+use Rattle.std.proofs.Common.{◌≡◌, ℕ, ◌+◌, ◌*◌, ◌/◌, ◌%◌, ◌<◌, ◌≤◌, Bool, true, false, cond, ltb, List, [], ◌∷◌, length, filter, sym, refl, ap, ◌∙◌, subst, ⊎_elim, arith}
+use Rattle.std.specs.List.{AllByRecursion}
 use Rattle.std.proofs.ByRecursion.{All-map, All-from_get_or, has_push_cases}
 use Rattle.std.proofs.lemmas.List.{get_or-replicate}
-use Rattle.std.proofs.lemmas.Bool.{le-leb, ltb-true, ltb-false, cond-true}
+use Rattle.std.proofs.lemmas.Bool.{le-leb, ltb-true, ltb-false}
 use Rattle.command.specs.declared.Command.{Command}
-use Rattle.command.specs.declared.sets.DirectorSet.{DirectorSet}
 use Rattle.command.specs.Members.{Membership}
 use Rattle.command.specs.Sets.{has, with_director}
 use Rattle.journal.specs.declared.writes.Entry.{Entry}
 use Rattle.journal.specs.declared.writes.Write.{Write}
 use Rattle.journal.specs.declared.writes.Write.TheVariants.{Promise, Put}
-use Rattle.journal.specs.Meaning.{blank, open_of, taken, after}
+use Rattle.journal.specs.Meaning.{blank, taken, after}
 use Rattle.journal.specs.Windows.{element_at, span}
 use Rattle.protocol.specs.declared.messages.Acknowledged.{Acknowledged}
-use Rattle.protocol.specs.declared.messages.Message.{Message}
 use Rattle.protocol.specs.Lists.{up_from}
-use Rattle.protocol.specs.Desks.{Role, following, standing, State, Desk, Step, ◌▸◌, write, send, become, quiet, choose}
+use Rattle.protocol.specs.Desks.{Role, following, State, Desk, Step, ◌▸◌, write, send, become, quiet}
 use Rattle.protocol.specs.Desks.{promised, me, itself, none, ack_of, with_role, stopped, cleared}
 use Rattle.protocol.specs.Messages.{owner, prepare}
 use Rattle.protocol.specs.Calls.{next_ballot, LowestOwn, leading, addressed, prepares, stood}
 use Rattle.protocol.specs.Hearing.{obey}
-use Rattle.protocol.proofs.Votes.{Past, Voted, Lawful, promise, count, has_none, vote_bounds, vote_top, open_vote}
+use Rattle.protocol.proofs.Votes.{Past, Voted, Lawful, promise, has_none, vote_bounds, vote_top, open_vote}
 use Rattle.protocol.proofs.Votes.{open_near, lawful_eight}
 use Rattle.protocol.proofs.Growing.{Grew, grew_by, grew_one, grew_same, lawful_one, one_is, plus, plus_one}
 use Rattle.protocol.proofs.Growing.{plus_none, written}
 use Rattle.protocol.proofs.Core.{Core}
 use Rattle.protocol.proofs.Writing.{upd, upd_here, Grows, upd_grows, lawful_here, core_promise}
-use Rattle.protocol.proofs.Knowing.{AllVoted, all_voted_grows, Fact, Leader, KnowsRole, Knows}
-use Rattle.protocol.proofs.Going.{desk, Good, Went, write_is, went_one, went_after, went_still, went_choose}
+use Rattle.protocol.proofs.Knowing.{all_voted_grows, Fact, Leader, KnowsRole, Knows}
+use Rattle.protocol.proofs.Going.{desk, Good, Went, write_is, went_one, went_after, went_still}
 use Rattle.protocol.proofs.Sets.{has_alone, nobody_has}
 
 -- the next own ballot is higher, owned, and the lowest such one
@@ -52,7 +50,7 @@ lowest_own d b h =
     lowest c above own false e = let l = ltb-false b (b / 32 * 32 + d) e in omega arith
 
 -- PREPAREs tell nothing that could be false
-pub prepares_facts : (R : ℕ → Past) (named : ℕ → Bool) (d : Desk) → All (Fact R) (prepares named d)
+pub prepares_facts : (R : ℕ → Past) (named : ℕ → Bool) (d : Desk) → AllByRecursion (Fact R) (prepares named d)
 unfolding prepares
 prepares_facts R named d =
     All-map (Fact R) (λ e. prepare (me d) e (promised d) (count_of d + 1)) (filter named (up_from 0 32))
@@ -158,7 +156,8 @@ module _ (f : Membership) (S : Command → Type 0) (P : ℕ → Past) (d : ℕ) 
       let y : Past = plus_one x w in
       let t : State = with_role (leading (desk y s)) s in
       let same : promised_past f S P d x s good b higher ≡ y = sym (one_is x w is_taken) in
-      let role : KnowsRole S (upd P d (promised_past f S P d x s good b higher)) d (promised_past f S P d x s good b higher)
+      let role : KnowsRole S (upd P d (promised_past f S P d x s good b higher)) d
+      (promised_past f S P d x s good b higher)
       (leading (desk y s)) =
       subst (λ (places : List Entry).
       Leader S (upd P d (promised_past f S P d x s good b higher)) d (promised_past f S P d x s good b higher)

@@ -1,35 +1,31 @@
 -- What a director tells of its settled slots and open entries is true; and what it passes on again.
-use Rattle.std.proofs.Common.{◌≡◌, ℕ, zero, suc, ◌+◌, ◌-◌, ◌<◌, ◌≤◌, min, Bool, true, false, cond, ◌&&◌, eqb, leb, List, [], ◌∷◌, map, length, get_or, sym, refl, ap, ◌∙◌, subst, arith}
-use Rattle.std.specs.List.{flat_map, AllByRecursion as All}
+use Rattle.std.proofs.Common.{◌≡◌, ℕ, zero, suc, ◌+◌, ◌-◌, ◌<◌, ◌≤◌, min, Bool, true, false, cond, ◌&&◌, eqb, leb, List, [], ◌∷◌, length, get_or, sym, refl, ap, ◌∙◌, subst, arith}
+use Rattle.std.specs.List.{flat_map, AllByRecursion}
 use Rattle.std.proofs.ByRecursion.{All-map, All-append}
 use Rattle.std.proofs.lemmas.List.{get_or-map, length-map}
 use Rattle.std.proofs.lemmas.Bool.{and_parts, leb-true, eqb-true, cond-false, ne_eqb}
 use Rattle.command.specs.declared.Command.{Command}
-use Rattle.command.specs.declared.sets.DirectorSet.{DirectorSet}
 use Rattle.command.specs.Members.{Membership}
-use Rattle.command.specs.Sets.{has, with_director}
 use Rattle.journal.specs.declared.writes.Entry.{Entry}
 use Rattle.journal.specs.Meaning.{noop, blank, open_of, settled_of}
 use Rattle.journal.specs.Windows.{span}
-use Rattle.protocol.specs.declared.messages.Message.{Message}
 use Rattle.protocol.specs.Lists.{up_from}
 use Rattle.protocol.specs.Desks.{Role, following, standing, State, itself, ack_of, send}
 use Rattle.protocol.specs.Messages.{owner, learn, promise as promiseOf}
 use Rattle.protocol.specs.Rings.{open_at, window, passed}
-use Rattle.protocol.specs.Calls.{addressed, prepares, asked_again, known_set, passed_again, ask_again, send_again, prodded}
+use Rattle.protocol.specs.Calls.{asked_again, known_set, passed_again, ask_again, send_again, prodded}
 use Rattle.protocol.specs.Hearing.{learns, entries_from}
 use Rattle.protocol.proofs.Votes.{Past, Voted, VotedAt, Lawful, promise, count, vote_bounds, vote_top, open_vote, open_past}
-use Rattle.protocol.proofs.Growing.{plus}
 use Rattle.protocol.proofs.Core.{Settled}
 use Rattle.protocol.proofs.Writing.{upd, upd_here, lawful_here}
-use Rattle.protocol.proofs.Knowing.{AllVoted, Told, Fact, Promises, Learns}
+use Rattle.protocol.proofs.Knowing.{AllVoted, Told, Fact}
 use Rattle.protocol.proofs.Going.{desk, Good, Went, went_still, went_then}
 use Rattle.protocol.proofs.Sets.{has_alone}
 use Rattle.protocol.proofs.Passes.{passed_facts}
 use Rattle.protocol.proofs.Advances.{own_vote, entry_vote, entry_bounds}
 use Rattle.protocol.proofs.Stands.{prepares_facts}
 
-all_up_from : (Q : ℕ → Type 0) (k a : ℕ) → ((n : ℕ) → a ≤ n → n < a + k → Q n) → All Q (up_from a k)
+all_up_from : (Q : ℕ → Type 0) (k a : ℕ) → ((n : ℕ) → a ≤ n → n < a + k → Q n) → AllByRecursion Q (up_from a k)
 all_up_from Q zero a h = tt
 all_up_from Q (suc k) a h =
     (h a (omega arith) (omega arith), all_up_from Q k (a + 1) (λ n l r. h n (omega arith) (omega arith)))
@@ -43,8 +39,8 @@ get_d_up_from zero a i h = absurd (omega arith)
 get_d_up_from (suc k) a zero h = omega arith
 get_d_up_from (suc k) a (suc i) h = let r = get_d_up_from k (a + 1) i (omega arith) in omega arith
 
-all_joined : {X Y : Type 0} (Q : Y → Type 0) (g : X → List Y) → ((x : X) → All Q (g x)) → (xs : List X)
-    → All Q (flat_map g xs)
+all_joined : {X Y : Type 0} (Q : Y → Type 0) (g : X → List Y) → ((x : X) → AllByRecursion Q (g x)) → (xs : List X)
+    → AllByRecursion Q (flat_map g xs)
 all_joined Q g h [] = tt
 all_joined Q g h (x ∷ xs) = All-append Q (g x) (flat_map g xs) (h x) (all_joined Q g h xs)
 
@@ -72,7 +68,7 @@ module _ (f : Membership) (S : Command → Type 0) (P : ℕ → Past) (d : ℕ) 
     subst (λ (y : Past). Settled y n (settled_of x.journal n)) (sym (upd_here P d x)) (settled_at x n some within),
   )
 
-  pub learns_facts : (to n : ℕ) → 1 ≤ n → All (Fact R) (learns to n (desk x s))
+  pub learns_facts : (to n : ℕ) → 1 ≤ n → AllByRecursion (Fact R) (learns to n (desk x s))
   unfolding learns
   learns_facts to n some =
       let k : ℕ = min (count x) (n + 7) + 1 - n in
@@ -140,11 +136,11 @@ module _ (f : Membership) (S : Command → Type 0) (P : ℕ → Past) (d : ℕ) 
                 (entry_vote f S P d x s good n some),
           )
 
-  again_facts : (n : ℕ) → All (Fact R) (passed_again (desk x s) n)
+  again_facts : (n : ℕ) → AllByRecursion (Fact R) (passed_again (desk x s) n)
   again_facts n = go (eqb (open_of x.journal n).ballot (promise x) && leb 1 (promise x)) refl
     where
       go : (t : Bool) → (eqb (open_of x.journal n).ballot (promise x) && leb 1 (promise x)) ≡ t
-          → All (Fact R) (cond t (passed (desk x s) n (known_set (desk x s) n) 0) [])
+          → AllByRecursion (Fact R) (cond t (passed (desk x s) n (known_set (desk x s) n) 0) [])
       go true e =
           let p = and_parts (eqb (open_of x.journal n).ballot (promise x)) (leb 1 (promise x)) e in
           let is = eqb-true (open_of x.journal n).ballot (promise x) p.0 in
@@ -154,7 +150,7 @@ module _ (f : Membership) (S : Command → Type 0) (P : ℕ → Past) (d : ℕ) 
           (told_none (open_of x.journal n).ballot)
       go false e = tt
 
-  asked_facts : (r : Role) → All (Fact R) (asked_again r (desk x s))
+  asked_facts : (r : Role) → AllByRecursion (Fact R) (asked_again r (desk x s))
   asked_facts following = tt
   asked_facts (standing q line reports) = prepares_facts R _ (desk x s)
 

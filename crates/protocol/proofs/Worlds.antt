@@ -1,34 +1,26 @@
 -- What holds of every world of a run, and what another seat with more writes must have for it to go on holding.
-use Rattle.std.proofs.Common.{◌≡◌, ℕ, ◌+◌, ◌≤◌, Bool, true, false, cond, eqb, ◌⊎◌, List, [], ◌∷◌, ◌++◌, length, take, Ok, Err, Result, sym, refl, ap, ◌∙◌, subst, inl, inr, ⊎_elim, append_assoc, append-nil, arith}
+use Rattle.std.proofs.Common.{◌≡◌, ℕ, Bool, true, false, cond, eqb, ◌⊎◌, List, [], ◌∷◌, ◌++◌, sym, refl, ap, ◌∙◌, subst, inl, inr, ⊎_elim}
 use mathlib.Core.Path.{fun_ext}
-use Rattle.std.specs.List.{ContainsAt as Has, AllByRecursion as All}
-use Rattle.std.proofs.ByRecursion.{all-has, has_append_left, has_push}
-use Rattle.std.proofs.lemmas.Bool.{eqb-true, both_ways, cases_lt}
+use Rattle.std.specs.List.{ContainsAt as Has}
+use Rattle.std.proofs.ByRecursion.{has_append_left}
+use Rattle.std.proofs.lemmas.Bool.{eqb-true}
 use Rattle.command.specs.declared.Command.{Command}
 use Rattle.command.specs.Members.{Membership, founded}
 use Rattle.journal.specs.declared.writes.Write.{Write}
-use Rattle.journal.specs.Meaning.{Meaning, fresh, replay}
-use Rattle.journal.specs.Laws.{Leads}
 use Rattle.machine.specs.Rules.{after}
 use Rattle.protocol.specs.declared.messages.Message.{Message}
-use Rattle.protocol.specs.declared.refusals.Refusal.{Refusal}
 use Rattle.protocol.specs.Lists.{Begins}
-use Rattle.protocol.specs.Desks.{State, Outcome}
-use Rattle.protocol.specs.Refusing.{Call, submit, hear, is_restart, outcome}
-use Rattle.protocol.specs.Replies.{Make, for_machine}
-use Rattle.protocol.specs.Runs.{Seat, journal_of, desk_of, Cluster, World, new_seat, beginning, Ending, accepted, refused, cut}
-use Rattle.protocol.specs.Runs.{Event, seat_after, writes_of, seat_cut, Recalls, with_seat, Possible, Next, accepts, refuses}
-use Rattle.protocol.specs.Runs.{cuts, Happens, Goes, stays, goes, Run}
-use Rattle.protocol.specs.Agreement.{settled_list, led_to, Submitted, Agree, DirectorsAgree}
-use Rattle.protocol.proofs.Votes.{Past, Voted, Lawful, count, has_cons, has_first, has_none, has_rest}
-use Rattle.protocol.proofs.Growing.{Grew, grew_same, begins_same, begins_trans, plus, replay_append}
-use Rattle.protocol.proofs.Core.{Core, list_begins}
+use Rattle.protocol.specs.Refusing.{submit}
+use Rattle.protocol.specs.Replies.{for_machine}
+use Rattle.protocol.specs.Runs.{Seat, journal_of, Cluster, World, accepted}
+use Rattle.protocol.specs.Runs.{Event, with_seat}
+use Rattle.protocol.specs.Agreement.{settled_list, led_to, Submitted}
+use Rattle.protocol.proofs.Votes.{Past, has_cons, has_first, has_rest}
+use Rattle.protocol.proofs.Growing.{grew_same, begins_same, plus}
+use Rattle.protocol.proofs.Core.{Core}
 use Rattle.protocol.proofs.Writing.{upd, Grows, upd_grows}
 use Rattle.protocol.proofs.Knowing.{Fact, fact_grows, Knows, knows_grows}
-use Rattle.protocol.proofs.Going.{desk, Throughout, through_cut, through_end, through_grew, Went}
-use Rattle.protocol.proofs.Stands.{good_cleared}
-use Rattle.protocol.proofs.Called.{Before, went_call, through_call}
-use Rattle.protocol.proofs.Machines.{ran_state, ran_more, by_settled}
+use Rattle.protocol.proofs.Going.{Throughout, through_end, through_grew}
 
 has_append_cases : {X : Type 0} (xs ys : List X) (x : X) → Has (xs ++ ys) x → Has xs x ⊎ Has ys x
 has_append_cases [] ys x h = inr h
@@ -64,7 +56,8 @@ submitted_more c es e s =
       director = s.director;
       places = s.places;
       among =
-          has_append_left es (e ∷ []) (record { director = s.director; call = submit c; places = s.places; ending = accepted })
+          has_append_left es (e ∷ [])
+          (record { director = s.director; call = submit c; places = s.places; ending = accepted })
           s.among;
     }
 
@@ -142,7 +135,8 @@ module _ (k : Cluster) (es : List Event) (w : World) (i : Inv k es w) (d : ℕ) 
     pub number : s.state.number ≡ d
     pub founding : s.state.founding ≡ f
     pub knows : s.outstanding ≡ false → Knows f S (upd P d (plus x ws)) d (plus x ws) s.state
-    pub machine : s.outstanding ≡ false → s.machine ≡ after k.make.rule k.make.start (for_machine (journal_of s).settled)
+    pub machine : s.outstanding ≡ false
+        → s.machine ≡ after k.make.rule k.make.start (for_machine (journal_of s).settled)
     pub facts : (m : Message) → Has ms m → Fact (upd P d (plus x ws)) m
 
   module _ (s : Seat) (ws : List Write) (ms : List Message) (n : Seated s ws ms) where

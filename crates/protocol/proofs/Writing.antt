@@ -1,5 +1,5 @@
 -- One write of one director keeps the core.
-use Rattle.std.proofs.Common.{◌≡◌, ℕ, ◌+◌, ◌<◌, ◌≤◌, Bool, true, false, cond, eqb, ◌⊎◌, List, [], ◌∷◌, ◌++◌, length, get_or, sym, refl, ap, ◌∙◌, subst, inl, inr, ⊎_elim, arith}
+use Rattle.std.proofs.Common.{◌≡◌, ℕ, ◌+◌, ◌≤◌, Bool, true, false, cond, eqb, ◌⊎◌, List, [], ◌∷◌, length, sym, refl, ap, ◌∙◌, subst, inl, inr, ⊎_elim, arith}
 use Rattle.std.proofs.ByRecursion.{has_push, has_push_cases}
 use Rattle.std.proofs.lemmas.List.{length-append, get_or_append_left, get_or_push}
 use Rattle.std.proofs.lemmas.Bool.{cases_lt, eqb-true, eqb-false, eq-eqb}
@@ -7,14 +7,13 @@ use Rattle.command.specs.declared.Command.{Command}
 use Rattle.command.specs.Members.{Membership}
 use Rattle.journal.specs.declared.writes.Write.{Write}
 use Rattle.journal.specs.declared.writes.Write.TheVariants.{Promise, Put, Settle}
-use Rattle.journal.specs.Meaning.{Meaning, noop, settled_count, taken, after, step}
-use Rattle.journal.proofs.Histories.{step_taken}
+use Rattle.journal.specs.Meaning.{noop, taken, after}
 use Rattle.journal.proofs.Newest.{put_parts}
 use Rattle.protocol.specs.Messages.{owner}
-use Rattle.protocol.proofs.Votes.{Past, Voted, Lawful, promise, count, vote_bounds}
+use Rattle.protocol.proofs.Votes.{Past, Voted, Lawful, count, vote_bounds}
 use Rattle.protocol.proofs.Growing.{Grew, grew_same, grew_by, lawful_one, one_is, plus_one, written, chain}
 use Rattle.protocol.proofs.Growing.{chain_grew}
-use Rattle.protocol.proofs.Core.{By, by_more, Settled, settled_grew, Passed, SafeAt, Chosen, Core, one_chain}
+use Rattle.protocol.proofs.Core.{by_more, Settled, Passed, SafeAt, Chosen, Core, one_chain}
 
 -- the pasts, with x for that of director d
 abbrev pub upd : (ℕ → Past) → ℕ → Past → ℕ → Past
@@ -138,7 +137,8 @@ module _ (f : Membership) (S : Command → Type 0) (P : ℕ → Past) (d : ℕ) 
       (core_grows f S (upd P d x) R core (upd_grows P d x y (grew_by w x t)) (lawful_upd w t)
       (at_both
       (λ e u v. (n b : ℕ) (c : Command) → Voted v n b c → Voted u n b c ⊎ Just f S R e n b c) P d x y
-      (λ n b c v. ⊎_elim (λ o. inl o) (λ new. inr (subst (JustVote f S R d) new vote)) (has_push_cases x.history w (Put n b c) v))
+      (λ n b c v. ⊎_elim (λ o. inl o) (λ new. inr (subst (JustVote f S R d) new vote))
+      (has_push_cases x.history w (Put n b c) v))
       (λ e n b c v. inl v))
       (at_both
       (λ e u v. (n : ℕ) (c : Command) → Settled v n c → Settled u n c ⊎ Chosen R n c (chain f v n)) P d x y

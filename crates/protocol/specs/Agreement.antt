@@ -1,5 +1,5 @@
 -- Directors agree: what is proved of every run.
-use Rattle.std.specs.Prelude.{◌≡◌, ℕ, ◌+◌, ◌≤◌, true, false, ◌⊎◌, List, [], ◌∷◌, ◌++◌, length}
+use Rattle.std.specs.Prelude.{◌≡◌, ℕ, ◌+◌, ◌≤◌, false, ◌⊎◌, List, ◌++◌, length}
 use Rattle.std.specs.List.{ContainsAt as Has}
 use Rattle.archive.specs.Layout.{layout}
 use Rattle.command.specs.declared.Command.{Command}
@@ -8,8 +8,8 @@ use Rattle.command.specs.Members.{Membership, founded}
 use Rattle.machine.specs.Rules.{after}
 use Rattle.protocol.specs.Lists.{Begins}
 use Rattle.protocol.specs.Refusing.{submit}
-use Rattle.protocol.specs.Replies.{Make, for_machine}
-use Rattle.protocol.specs.Runs.{World, Cluster, Event, Seat, accepted, journal_of, Goes, Run}
+use Rattle.protocol.specs.Replies.{for_machine}
+use Rattle.protocol.specs.Runs.{World, Cluster, Event, accepted, journal_of, Goes, Run}
 
 -- the settled list of director d
 abbrev pub settled_list : World → ℕ → List Command
@@ -47,7 +47,8 @@ pub record Agree (k : Cluster) (es : List Event) (v w : World) : Type 0 where
   pub same : (d e : ℕ) → Level w d e → settled_list w d ≡ settled_list w e
   pub chains : (d e n : ℕ) → Level w d e → n ≤ length (settled_list w d) + 8 → chain_at k w d n ≡ chain_at k w e n
   pub files : (d e : ℕ) → Level w d e → file_of k w d ≡ file_of k w e
-  -- where no restart is outstanding, the machine's state is the one that the list leads to; so equal lists have equal ones
+  -- where no restart is outstanding, the machine's state is the one that the list leads to; so equal lists have equal
+  -- ones
   pub machine : (d : ℕ) → (w.seats d).outstanding ≡ false → (w.seats d).machine ≡ led_to k w d
   pub machines : (d e : ℕ) → Level w d e → (w.seats d).outstanding ≡ false → (w.seats e).outstanding ≡ false
       → (w.seats d).machine ≡ (w.seats e).machine

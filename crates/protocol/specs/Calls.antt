@@ -1,6 +1,6 @@
 -- The seven calls of a director, and what each of them does where it is not refused. What hearing a message does is in
 -- Hearing.antt, and when a call is refused in Refusing.antt.
-use Rattle.std.specs.Prelude.{◌≡◌, ℕ, ◌+◌, ◌*◌, ◌/◌, ◌<◌, ◌≤◌, Bool, true, false, cond, not, ◌&&◌, List, [], ◌∷◌, ◌++◌, map, drop, Some, None, filter, Option, ◌==◌, nat_le, nat_lt}
+use Rattle.std.specs.Prelude.{◌≡◌, ℕ, ◌+◌, ◌*◌, ◌/◌, ◌<◌, ◌≤◌, Bool, cond, not, ◌&&◌, List, [], ◌∷◌, ◌++◌, map, drop, Some, None, filter, Option, ◌==◌, nat_le, nat_lt}
 use Rattle.std.specs.List.{flat_map}
 use Rattle.command.specs.declared.Command.{Command}
 use Rattle.command.specs.declared.sets.DirectorSet.{DirectorSet}
@@ -14,7 +14,7 @@ use Rattle.journal.specs.Meaning.{blank}
 use Rattle.protocol.specs.declared.messages.Message.{Message}
 use Rattle.protocol.specs.Lists.{up_from, any_of, first_of, head_of, is_there}
 use Rattle.protocol.specs.Messages.{owner, prepare, fetch}
-use Rattle.protocol.specs.Desks.{Role, following, standing, State, Desk, Step, ◌▸◌, quiet, write, send, become, repeat}
+use Rattle.protocol.specs.Desks.{Role, following, standing, Desk, Step, ◌▸◌, quiet, write, send, become, repeat}
 use Rattle.protocol.specs.Desks.{settled_by, promised, me, itself, ack_of, with_role, with_ack, cleared}
 use Rattle.protocol.specs.Rings.{chain_of, open_at, window, passed, pass_on}
 use Rattle.protocol.specs.Settling.{advance}
@@ -28,8 +28,8 @@ lengthened c (standing q line reports) = standing q (line ++ (c ∷ [])) reports
 unfoldable pub submitted : Command → Step
 submitted c = become (λ s. with_role (lengthened c s.role) s)
 
--- Stand: the lowest own ballot above the promised one is promised; the director stands, with itself as the only promiser,
--- an empty line, and its own open entries as reports; and it asks for promises.
+-- Stand: the lowest own ballot above the promised one is promised; the director stands, with itself as the only
+-- promiser, an empty line, and its own open entries as reports; and it asks for promises.
 
 -- the lowest ballot above b that director d owns
 abbrev pub next_ballot : ℕ → ℕ → ℕ

@@ -1,5 +1,5 @@
 -- What a director holds, and how what it does is put together from steps.
-use Rattle.std.specs.Prelude.{ℕ, zero, suc, ◌+◌, Bool, cond, List, [], ◌∷◌, ◌++◌, replicate}
+use Rattle.std.specs.Prelude.{ℕ, zero, suc, Bool, cond, List, [], ◌++◌, replicate}
 use Rattle.command.specs.declared.Command.{Command}
 use Rattle.command.specs.declared.sets.DirectorSet.{DirectorSet}
 use Rattle.command.specs.Members.{Membership}

@@ -3,7 +3,6 @@ use Rattle.std.specs.Prelude.{◌≡◌, ℕ, zero, suc, ◌+◌, ◌-◌, List,
 use Rattle.command.specs.declared.Command.{Command}
 use Rattle.journal.specs.Meaning.{noop}
 use Rattle.machine.specs.Pools.{pool_rule, pool_start, weight}
-use Rattle.protocol.specs.declared.messages.Message.{Message}
 use Rattle.protocol.specs.declared.refusals.Refusal.{Refusal}
 use Rattle.protocol.specs.Desks.{Outcome}
 use Rattle.protocol.specs.Messages.{fetch as nothing}
@@ -83,7 +82,8 @@ abbrev pub removing : List Act
 removing =
     calls 0 stand ∷ hears 2 2 ∷ hears 0 3 ∷ calls 0 (submit (remove 1))
     ∷ (times 7 (calls 0 (submit noop)) ++ (calls 0 pump
-    ∷ (hears_from 2 4 8 ++ (hears_from 0 12 8 ++ (calls 0 (submit noop) ∷ calls 0 pump ∷ hears 2 20 ∷ hears 0 21 ∷ [])))))
+    ∷ (hears_from 2 4 8 ++ (hears_from 0 12 8
+    ++ (calls 0 (submit noop) ∷ calls 0 pump ∷ hears 2 20 ∷ hears 0 21 ∷ [])))))
 
 -- the acts are a run of the three directors, each of them accepted, and lead to a world of which this holds
 pub record Reached (acts : List Act) (Q : World → Type 0) : Type 0 where

@@ -1,7 +1,6 @@
 -- What a director does with a message that it does not refuse.
-use Rattle.std.specs.Prelude.{ℕ, ◌+◌, ◌-◌, min, Bool, true, false, cond, not, ◌&&◌, ◌||◌, ltb, leb, List, [], ◌∷◌, map, Some, None, Option, ◌==◌, bit_or, nat_eq, nat_le, nat_lt}
+use Rattle.std.specs.Prelude.{ℕ, ◌+◌, ◌-◌, min, Bool, cond, not, ◌&&◌, ◌||◌, ltb, leb, List, [], ◌∷◌, map, Some, None, Option, ◌==◌, bit_or, nat_eq, nat_le, nat_lt}
 use Rattle.command.specs.declared.Command.{Command}
-use Rattle.command.specs.declared.sets.DirectorSet.{DirectorSet}
 use Rattle.command.specs.Members.{is_member}
 use Rattle.command.specs.Sets.{with_director}
 use Rattle.journal.specs.declared.writes.Entry.{Entry}
@@ -14,8 +13,8 @@ use Rattle.protocol.specs.declared.messages.Acknowledged.{Acknowledged}
 use Rattle.protocol.specs.declared.messages.Message.{Message}
 use Rattle.protocol.specs.Lists.{up_from}
 use Rattle.protocol.specs.Messages.{kind_of, owner, promise, learn}
-use Rattle.protocol.specs.Desks.{Role, following, standing, State, Desk, Step, ◌▸◌, quiet, write, send, become, choose}
-use Rattle.protocol.specs.Desks.{settled_by, promised, me, itself, ack_of, with_role, with_ack, stopped}
+use Rattle.protocol.specs.Desks.{Role, following, standing, Desk, Step, ◌▸◌, quiet, write, send, become, choose}
+use Rattle.protocol.specs.Desks.{settled_by, promised, me, ack_of, with_role, with_ack, stopped}
 use Rattle.protocol.specs.Rings.{chain_of, open_at, pass_on}
 use Rattle.protocol.specs.Settling.{settle, advance, catch_up}
 
@@ -41,7 +40,8 @@ heard_prepare m =
     (λ d. send (learns (owner m.ballot) m.slot d) d)
     (λ d. send (promise (me d) (owner m.ballot) m.ballot m.slot (entries_from d m.slot) ∷ []) d)
 
--- PROMISE: its sender is one more promiser; an entry of a slot above p with a higher ballot than the report replaces it.
+-- PROMISE: its sender is one more promiser; an entry of a slot above p with a higher ballot than the report replaces
+-- it.
 
 abbrev pub reported_in : ℕ → ℕ → Entry → List Entry → List Entry
 reported_in p n e reports =
@@ -96,7 +96,8 @@ heard_acked m =
     quiet
     ▸ advance
 
--- LEARN: of the next slot. A director that stands and put another command there stops standing. Then settle, and advance.
+-- LEARN: of the next slot. A director that stands and put another command there stops standing. Then settle, and
+-- advance.
 
 abbrev pub same_command : Command → Command → Bool
 same_command c e =

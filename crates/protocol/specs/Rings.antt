@@ -1,5 +1,5 @@
 -- Whom a director passes a slot on to.
-use Rattle.std.specs.Prelude.{ℕ, ◌+◌, ◌-◌, Bool, true, false, cond, not, ◌&&◌, ◌||◌, List, [], ◌∷◌, ◌++◌, drop, Some, None, Option, ◌==◌}
+use Rattle.std.specs.Prelude.{ℕ, ◌+◌, ◌-◌, Bool, cond, not, ◌&&◌, ◌||◌, List, [], ◌∷◌, ◌++◌, drop, Some, None, Option, ◌==◌}
 use Rattle.command.specs.declared.Command.{Command}
 use Rattle.command.specs.declared.sets.DirectorSet.{DirectorSet}
 use Rattle.command.specs.Chains.{chain_for}
@@ -9,7 +9,7 @@ use Rattle.journal.specs.Windows.{span}
 use Rattle.journal.specs.Meaning.{open_of}
 use Rattle.protocol.specs.declared.messages.Message.{Message}
 use Rattle.protocol.specs.Lists.{up_from, any_of, first_of}
-use Rattle.protocol.specs.Messages.{owner, is_owner, accept, acked}
+use Rattle.protocol.specs.Messages.{is_owner, accept, acked}
 use Rattle.protocol.specs.Desks.{Desk, Step, settled_by, me, send}
 
 -- the members of the chain for slot n, as far as this director has settled

@@ -1,5 +1,5 @@
--- Runs: directors with their journals and machines, called in any order, with messages lost, repeated and late, and power
--- that fails inside calls. A message that is lost is one that is never heard.
+-- Runs: directors with their journals and machines, called in any order, with messages lost, repeated and late, and
+-- power that fails inside calls. A message that is lost is one that is never heard.
 use Rattle.std.specs.Prelude.{◌≡◌, ℕ, ◌≤◌, Bool, true, false, cond, List, [], ◌∷◌, ◌++◌, take, Ok, Err, Result, ◌==◌}
 use Rattle.std.specs.List.{ContainsAt as Has}
 use Rattle.command.specs.Members.{founded}
@@ -11,8 +11,8 @@ use Rattle.protocol.specs.Desks.{following, State, Desk, Outcome, cleared}
 use Rattle.protocol.specs.Refusing.{Call, hear, is_restart, outcome}
 use Rattle.protocol.specs.Replies.{Make, machine_after}
 
--- A seat: a director with its journal and machine. The journal is told by its capacity and by the list of all writes that
--- it took, the oldest first. From a power cut on, until a restart is accepted, a restart is outstanding.
+-- A seat: a director with its journal and machine. The journal is told by its capacity and by the list of all writes
+-- that it took, the oldest first. From a power cut on, until a restart is accepted, a restart is outstanding.
 pub record Seat : Type 0 where
   pub state : State
   pub capacity : ℕ
@@ -32,8 +32,8 @@ pub record Cluster : Type 0 where
   pub capacity : ℕ → ℕ
   pub make : Make
 
--- A world: a seat for each director's number, and all messages that were sent so far. A number that no director has is a
--- seat that is never called.
+-- A world: a seat for each director's number, and all messages that were sent so far. A number that no director has is
+-- a seat that is never called.
 pub record World : Type 0 where
   pub seats : ℕ → Seat
   pub sent : List Message

@@ -1,5 +1,5 @@
-//! The protocol by which directors agree on one list of commands: its messages, its refusals, the slot window, what each
-//! call does, what a run is, and that directors agree in every run.
+//! The protocol by which directors agree on one list of commands: its messages, its refusals, the slot window, what
+//! each call does, what a run is, and that directors agree in every run.
 
 #![tactic(auto)]
 

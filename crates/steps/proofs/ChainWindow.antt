@@ -1,6 +1,6 @@
 -- The chains of the window, one settled command on.
-use Rattle.std.proofs.Common.{◌≡◌, ℕ, ◌+◌, ◌-◌, ◌%◌, ◌<◌, ◌≤◌, true, false, ◌⊎◌, List, [], ◌∷◌, ◌++◌, length, get_or, take, set, sym, refl, ap, ◌∙◌, subst, inl, inr, arith}
-use Rattle.std.proofs.lemmas.List.{length-append, take-append-le, take_all, get_or-set_same, get_or-set_other}
+use Rattle.std.proofs.Common.{◌≡◌, ℕ, ◌+◌, ◌-◌, ◌%◌, ◌≤◌, true, false, List, [], ◌∷◌, ◌++◌, length, get_or, set, sym, refl, ap, ◌∙◌, subst, inl, inr, arith}
+use Rattle.std.proofs.lemmas.List.{length-append, take-append-le, take_all}
 use Rattle.std.proofs.lemmas.Bool.{cases_lt}
 use Rattle.command.specs.declared.Command.{Command}
 use Rattle.command.specs.declared.chains.Chain.{Chain}
@@ -8,13 +8,13 @@ use Rattle.command.specs.Chains.{membership, after, after_all, chain_for}
 use Rattle.command.specs.Members.{Membership}
 use Rattle.journal.specs.declared.writes.Write.TheVariants.{Settle}
 use Rattle.journal.specs.Meaning.{Meaning, taken, step, after as written}
-use Rattle.journal.specs.Windows.{element_at, put_at}
 use Rattle.journal.proofs.Histories.{step_taken, step_untaken}
 use Rattle.protocol.proofs.Places.{placed_other, placed_next}
 use Rattle.steps.specs.declared.chains.Chains.{Chains}
 use Rattle.steps.specs.Chains.{Tells}
 
-after_push : (f : Membership) (cs : List Command) (c : Command) → after_all f (cs ++ (c ∷ [])) ≡ after (after_all f cs) c
+after_push : (f : Membership) (cs : List Command) (c : Command)
+    → after_all f (cs ++ (c ∷ [])) ≡ after (after_all f cs) c
 after_push f [] c = refl
 after_push f (e ∷ cs) c = after_push (after f e) cs c
 

@@ -9,7 +9,7 @@ use Rattle.journal.specs.Meaning.{Meaning, settled_count, taken, after, step, wr
 use Rattle.journal.proofs.Histories.{step_taken}
 use Rattle.machine.specs.Rules.{Rule}
 use Rattle.protocol.specs.declared.messages.Message.{Message}
-use Rattle.protocol.specs.Desks.{State, Desk, Outcome, Step, left, both, go_on, quiet, write, become, forget, ◌▸◌}
+use Rattle.protocol.specs.Desks.{State, Desk, Outcome, Step, left, both, go_on, write, become, forget, ◌▸◌}
 use Rattle.protocol.specs.Replies.{ran, settled_in}
 use Rattle.protocol.specs.Settling.{settle}
 use Rattle.protocol.proofs.Growing.{replay_append}

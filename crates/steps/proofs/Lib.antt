@@ -2,3 +2,4 @@ pub mod ChainWindow
 pub mod Running
 pub mod Composing
 pub mod Looping
+pub mod Backing

@@ -1,10 +1,9 @@
 -- A loop of the code, by what is done and what is left of it.
-use Rattle.std.proofs.Common.{◌≡◌, ℕ, zero, suc, Bool, true, false, cond, List, [], ◌∷◌, ◌++◌, sym, refl, ap, ◌∙◌, subst, append_assoc, append-nil}
+use Rattle.std.proofs.Common.{◌≡◌, ℕ, zero, suc, Bool, true, false, cond, List, [], sym, refl, ap, ◌∙◌, subst, append_assoc, append-nil}
 use Rattle.journal.specs.declared.writes.Write.{Write}
-use Rattle.journal.specs.Meaning.{Meaning, replay}
 use Rattle.machine.specs.Rules.{Rule}
-use Rattle.protocol.specs.Desks.{State, Desk, Outcome, Step, left, both, go_on, quiet, repeat, ◌▸◌}
-use Rattle.protocol.specs.Replies.{ran, settled_in}
+use Rattle.protocol.specs.Desks.{Desk, Outcome, Step, left, both, go_on, quiet, repeat, ◌▸◌}
+use Rattle.protocol.specs.Replies.{ran}
 use Rattle.steps.specs.Doing.{Did}
 use Rattle.steps.proofs.Composing.{did_both, did_still}
 
@@ -66,6 +65,19 @@ module _ (rule : Rule) (d : Desk) (whole : Outcome) (now : Desk) (B C : List Wri
             ∙ ap (λ (t : Bool). both g.done (cond t (turn ▸ repeat test turn k) quiet now)) (sym e)
             ∙ g.all;
       }
+
+  -- the same, where the turns that are left are counted another way
+  pub going_turn : (test : Desk → Bool) (turn : Step) (j k : ℕ) (next : Desk) (D : List Write → Type 0) (w : List ℕ × ℕ)
+      → j ≡ suc k → test now ≡ true → Going rule d whole (repeat test turn j) now B C u v
+      → Did rule now (turn now) next C D v w → Going rule d whole (repeat test turn k) next B D u w
+  going_turn test turn j k next D w count e g one =
+      going_on test turn k next D w e
+      (subst (λ (i : ℕ). Going rule d whole (repeat test turn i) now B C u v) count g) one
+
+-- a step repeated no more times is quiet
+pub repeat_none : (test : Desk → Bool) (turn : Step) (k : ℕ) (d : Desk) → k ≡ 0 → repeat test turn k d ≡ quiet d
+unfolding repeat
+repeat_none test turn k d none = ap (λ (i : ℕ). repeat test turn i d) none
 
 -- a repeated step whose test fails is quiet
 pub repeat_stops : (test : Desk → Bool) (turn : Step) (k : ℕ) (d : Desk) → test d ≡ false

@@ -1,4 +1,3 @@
-use Rattle.std.proofs.Common.{◌≡◌, sym, ◌∙◌, ap₂}
 use Rattle.steps.proofs.Running.{ran_other, ran_own}
 use Rattle.steps.proofs.settling.run.Goals as goal
 

@@ -1,9 +1,7 @@
-use Rattle.std.proofs.Common.{◌≡◌, ℕ, ◌+◌, ◌<◌, true, List, length, sym, ap, ◌∙◌, subst, arith, rules}
+use Rattle.std.proofs.Common.{◌≡◌, ℕ, ◌+◌, List, sym, ap, ◌∙◌, subst, arith}
 use Rattle.command.specs.declared.Command.{Command}
-use Rattle.command.specs.Members.{Membership}
-use Rattle.journal.specs.declared.writes.Write.{Write}
 use Rattle.journal.specs.declared.writes.Write.TheVariants.{Settle}
-use Rattle.journal.specs.Meaning.{Meaning, wrote, taken, settled_count}
+use Rattle.journal.specs.Meaning.{Meaning, wrote, settled_count}
 use Rattle.machine.specs.Rules.{Rule}
 use Rattle.protocol.specs.Desks.{State, forget}
 use Rattle.protocol.specs.Replies.{ran, settled_in}
@@ -34,16 +32,16 @@ returns g c =
     let u : List ℕ × ℕ = (g.M.Machine.state c.args.machine.now, c.args.answer) in
     let v : List ℕ × ℕ = (g.M.Machine.state c.if-settle.machine, c.if-settle.answer) in
     let state : view c.forget.new.self ≡ forget (settled_count m + 1) s =
-    c.forget.ensures ∙ ap (λ (k : ℕ). forget (k + 1) s) c.settled-count-slot.ensures in
+    c.forget.ensures ∙ ap (λ (k : ℕ). forget (k + 1) s) c.settled_count-slot.ensures in
     let founding = ap (λ (t : State). t.founding) state in
     let machine : v ≡ ran rule u (settled_in (wrote (Settle e) m)) =
     elim c.if-settle.branch [
       | then-settle w ↦
           settle_ran rule m e u v (sym w.if-settle.ensures.answer)
-          ((λ i. (g.M.Machine.state (w.machine_is i), w.answer-is i)) ∙ w.run-answer.ensures)
+          ((λ i. (g.M.Machine.state (w.machine-is i), w.answer-is i)) ∙ w.run-answer.ensures)
       | else-settle w ↦
           settle_still rule m e u v (sym w.if-settle.ensures.answer)
-          (λ i. (g.M.Machine.state (w.machine_is i), w.answer-is i))
+          (λ i. (g.M.Machine.state (w.machine-is i), w.answer-is i))
     ] in
     let chains : Tells (view c.forget.new.self).founding n.settled c.if-settle.chains =
     elim c.if-settle.branch [
