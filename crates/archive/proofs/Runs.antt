@@ -1,6 +1,6 @@
 -- What an open archive and its area hold after any calls, each of which got the area as the last left it.
-use Rattle.std.proofs.Common.{◌≡◌, ℕ, ◌+◌, ◌<◌, ◌≤◌, Bool, true, false, cond, ltb, leb, List, [], ◌∷◌, ◌++◌, length, take, Some, None, Option, sym, refl, ap, ◌∙◌, ap₂, append_assoc, append-nil, arith}
-use Rattle.std.specs.List.{AllByRecursion as All}
+use Rattle.std.proofs.Common.{◌≡◌, ℕ, ◌+◌, ◌≤◌, Bool, true, false, cond, ltb, List, [], ◌∷◌, ◌++◌, length, take, Some, None, Option, sym, refl, ap, ◌∙◌, ap₂, append_assoc, append-nil, arith}
+use Rattle.std.specs.List.{AllByRecursion}
 use Rattle.std.proofs.lemmas.Bool.{leb-true, le-leb, ltb-true, cond-true}
 use Rattle.std.proofs.ByRecursion.{All-push}
 use Rattle.std.proofs.lemmas.List.{length-append, length_push, flat_map_more}
@@ -13,8 +13,8 @@ use Rattle.command.specs.Members.{valid_chain}
 use Rattle.archive.specs.declared.writing.OpenArchive.{OpenArchive}
 use Rattle.archive.specs.declared.writing.Refusal.{Refusal}
 use Rattle.archive.specs.declared.writing.Refusal.TheVariants.{IllFormed, InvalidChain, NoSpace, Full}
-use Rattle.archive.specs.Layout.{header, entry, entries, layout, Archive}
-use Rattle.archive.specs.Writing.{left, has_room, begin_refusal, begun, add_refusal, grown, seal_refusal, sealed, Run}
+use Rattle.archive.specs.Layout.{header, entry, entries, layout}
+use Rattle.archive.specs.Writing.{left, has_room, begin_refusal, begun, add_refusal, grown, seal_refusal, Run}
 use Rattle.archive.specs.Writing.{began, added, Sealed}
 use Rattle.archive.proofs.Scans.{some_none}
 
@@ -22,8 +22,8 @@ use Rattle.archive.proofs.Scans.{some_none}
 -- room
 pub record Holds (area : List ℕ) (o : OpenArchive) (ms : List ℕ) (cs : List Command) : Type 0 where
   pub chain : valid_chain ms ≡ true
-  pub formed : All (λ c. well_formed c ≡ true) cs
-  pub sized : All Sized cs
+  pub formed : AllByRecursion (λ c. well_formed c ≡ true) cs
+  pub sized : AllByRecursion Sized cs
   pub few : length cs ≤ 65535
   pub end : o.at ≡ length (header ms ++ entries cs)
   pub count : o.count ≡ length cs

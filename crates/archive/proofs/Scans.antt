@@ -1,12 +1,12 @@
 -- Going through the entries: it finds just the commands whose entries the bytes are.
-use Rattle.std.proofs.Common.{◌≡◌, ℕ, zero, suc, ◌+◌, ◌-◌, ◌<◌, ◌≤◌, Bool, true, false, cond, eqb, List, [], ◌∷◌, ◌++◌, length, take, drop, Some, None, Option, sym, refl, ap, ◌∙◌, ap₂, arith}
-use Rattle.std.specs.List.{AllByRecursion as All}
+use Rattle.std.proofs.Common.{◌≡◌, ℕ, zero, suc, ◌+◌, ◌-◌, ◌<◌, ◌≤◌, Bool, true, false, cond, eqb, List, [], ◌∷◌, ◌++◌, length, Some, None, sym, refl, ap, ◌∙◌, ap₂, arith}
+use Rattle.std.specs.List.{AllByRecursion}
 use Rattle.std.proofs.lemmas.Bool.{cond-true, cond-false, ne_eqb, eq-eqb, eqb-false}
 use Rattle.std.proofs.ByRecursion.{All-drop}
 use Rattle.std.proofs.lemmas.List.{length-drop, drop_at, take-append-drop}
 use Rattle.octets.proofs.Numbers.{Bytes}
 use Rattle.command.specs.declared.Command.{Command}
-use Rattle.command.specs.Commands.{well_formed, verb_of, Sized}
+use Rattle.command.specs.Commands.{well_formed, Sized}
 use Rattle.archive.specs.Layout.{entry, entries}
 use Rattle.archive.specs.Reading.{size_of, command_of, rest, Found, found, and_then, scan, scan_all}
 use Rattle.archive.proofs.OneEntry.{reread, rewritten}
@@ -68,7 +68,7 @@ counted_more e bs after some same =
     rw same (record { broken = ap (λ f. f.broken) (sym more); count = c; shorter = rest_shorter bs some })
 
 -- what was written of a list is found again
-pub scan_entries : (cs : List Command) (i : ℕ) → All (λ c. well_formed c ≡ true) cs → All Sized cs
+pub scan_entries : (cs : List Command) (i : ℕ) → AllByRecursion (λ c. well_formed c ≡ true) cs → AllByRecursion Sized cs
     → scan_all i (entries cs) ≡ found cs None
 scan_entries [] i h s = scan_end i
 scan_entries (c ∷ cs) i h s =
@@ -84,8 +84,8 @@ scan_entries (c ∷ cs) i h s =
 -- bytes whose entries are all whole are what is written of the commands that were found
 pub record Whole (bs : List ℕ) (cs : List Command) : Type 0 where
   pub bytes : entries cs ≡ bs
-  pub formed : All (λ c. well_formed c ≡ true) cs
-  pub sized : All Sized cs
+  pub formed : AllByRecursion (λ c. well_formed c ≡ true) cs
+  pub sized : AllByRecursion Sized cs
 
 pub some_none : {A : Type 0} {x : A} → Some x ≡ None → ⊥
 some_none e = let z : ◌≡◌ {A = ℕ} 0 1 = cc in omega arith

@@ -1,20 +1,18 @@
 -- With space for the longest entries, only their number can be refused.
-use Rattle.std.proofs.Common.{◌≡◌, ℕ, suc, ◌+◌, ◌*◌, ◌<◌, ◌≤◌, Bool, true, false, cond, ltb, leb, ◌⊎◌, List, [], ◌∷◌, length, Some, None, Option, sym, refl, ap, ◌∙◌, ap₂, inl, inr, arith}
-use Rattle.std.specs.List.{AllByRecursion as All}
-use Rattle.std.proofs.lemmas.Bool.{le-leb, lt-leb, lt-ltb, le-ltb, cases_lt, cond-true, cond-false}
+use Rattle.std.proofs.Common.{◌≡◌, ℕ, suc, ◌+◌, ◌*◌, ◌≤◌, true, cond, ltb, leb, List, [], ◌∷◌, length, Some, None, Option, sym, refl, ap, ◌∙◌, inl, inr, arith}
+use Rattle.std.specs.List.{AllByRecursion}
+use Rattle.std.proofs.lemmas.Bool.{le-leb, lt-leb, le-ltb, cases_lt, cond-true, cond-false}
 use Rattle.octets.specs.Areas.{over}
 use Rattle.octets.proofs.Areas.{length_over}
 use Rattle.command.specs.declared.Command.{Command}
 use Rattle.command.specs.declared.Verb.{Verb}
 use Rattle.command.specs.declared.Verb.TheVariants.{Noop, Add, Remove, Change}
 use Rattle.command.specs.Commands.{verb_of, well_formed, serial_bytes}
-use Rattle.command.specs.Members.{valid_chain}
 use Rattle.archive.specs.declared.writing.OpenArchive.{OpenArchive}
-use Rattle.archive.specs.declared.writing.Refusal.{Refusal}
-use Rattle.archive.specs.declared.writing.Refusal.TheVariants.{IllFormed, InvalidChain, NoSpace, Full}
+use Rattle.archive.specs.declared.writing.Refusal.TheVariants.{IllFormed, Full}
 use Rattle.archive.specs.Layout.{header, entry, entry_as, most}
-use Rattle.archive.specs.Lists.{refused, at_entry, adds_refusal, list_refusal, space_for, EnoughSpace}
-use Rattle.archive.specs.Writing.{has_room, begin_refusal, begun, add_refusal, grown}
+use Rattle.archive.specs.Lists.{refused, adds_refusal, EnoughSpace}
+use Rattle.archive.specs.Writing.{begin_refusal, begun, add_refusal, grown}
 use Rattle.archive.proofs.Calls.{begin_taken, add_taken}
 use Rattle.archive.proofs.WholeLists.{at_none, at_some}
 
@@ -32,7 +30,7 @@ add_full area o c w l =
     cond-true (well_formed c) _ (Some IllFormed) w
     ∙ cond-false (ltb o.count most) _ (Some Full) (le-ltb o.count most l)
 
-adds : (cs : List Command) (area : List ℕ) (o : OpenArchive) → All (λ c. well_formed c ≡ true) cs → o.count ≤ most
+adds : (cs : List Command) (area : List ℕ) (o : OpenArchive) → AllByRecursion (λ c. well_formed c ≡ true) cs → o.count ≤ most
     → o.at + length cs * (7 + serial_bytes) + 2 ≤ length area
     → adds_refusal area o (o.count + 1) cs ≡ cond (leb (o.count + length cs) most) None
     (Some (refused (most + 1) Full))

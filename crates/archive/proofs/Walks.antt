@@ -1,12 +1,12 @@
 -- Entry n of the bytes that a list's entries are.
-use Rattle.std.proofs.Common.{◌≡◌, ℕ, zero, suc, ◌+◌, ◌-◌, ◌<◌, ◌≤◌, Bool, true, false, cond, ◌&&◌, eqb, ltb, leb, List, [], ◌∷◌, ◌++◌, length, get_or, take, drop, Some, None, Option, sym, refl, ap, ◌∙◌, ap₂, arith}
+use Rattle.std.proofs.Common.{◌≡◌, ℕ, zero, suc, ◌+◌, ◌-◌, ◌≤◌, Bool, true, false, cond, ◌&&◌, eqb, ltb, leb, List, [], ◌∷◌, ◌++◌, length, get_or, take, Some, None, Option, sym, refl, ap, ◌∙◌, ap₂, arith}
 use lib.Dec.{leb-suc-zero, leb-suc-suc}
-use Rattle.std.specs.List.{AllByRecursion as All}
+use Rattle.std.specs.List.{AllByRecursion}
 use Rattle.std.proofs.lemmas.Bool.{cond-true, cond-false, ne_eqb, lt-ltb}
 use Rattle.std.proofs.lemmas.List.{length-append, drop_at, take_at}
 use Rattle.command.specs.declared.Command.{Command}
 use Rattle.command.specs.Commands.{well_formed, Sized}
-use Rattle.archive.specs.Layout.{header, entry, entries, Archive, layout}
+use Rattle.archive.specs.Layout.{header, entry, entries, Archive}
 use Rattle.archive.specs.Reading.{size_of, rest, command_as, entry_at, entry_of, count_at, body_of}
 use Rattle.archive.proofs.OneEntry.{reread}
 use Rattle.archive.proofs.Scans.{some_none}
@@ -40,7 +40,7 @@ told e cs m =
     (Some (e - length (entries cs) + length (entries (take m cs)), entry (get_or cs m (command_as None []))))
     None
 
-walked : (m : ℕ) (cs : List Command) (e : ℕ) → All (λ c. well_formed c ≡ true) cs → All Sized cs
+walked : (m : ℕ) (cs : List Command) (e : ℕ) → AllByRecursion (λ c. well_formed c ≡ true) cs → AllByRecursion Sized cs
     → length (entries cs) ≤ e
     → entry_at (suc m) e (entries cs) ≡ told e cs m
 unfolding told

@@ -8,8 +8,8 @@ ghost use Rattle.command.specs.Commands.{well_formed, serial_bytes, Sized};
 ghost use Rattle.command.specs.declared.Command.{Command};
 ghost use Rattle.command.specs.declared.Verb.TheVariants.{Change};
 
-use octets::read_u16;
 use command::{Command, SERIAL_BYTES, Verb, read_serial};
+use octets::read_u16;
 
 /// An entry: the part of the file that holds it, and the offset where it begins.
 #[derive(Clone, Copy)]

@@ -8,8 +8,8 @@ ghost use Rattle.command.specs.Commands.{verb_of, well_formed, serial_bytes, Siz
 ghost use Rattle.command.specs.declared.Verb.TheVariants.{Change};
 
 use crate::{COUNT_BYTES, HEADER_BYTES, MARK, is_chain};
-use octets::{write_bytes, write_u8, write_u16};
 use command::{Command, SERIAL_BYTES, Serial, Verb, write_serial};
+use octets::{write_bytes, write_u8, write_u16};
 
 /// An archive that is being written: where its next part goes, and how many entries it has. It tells no length,
 /// and it cannot be let go: seal or strike ends it.

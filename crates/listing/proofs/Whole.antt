@@ -12,7 +12,7 @@ use Rattle.std.proofs.lemmas.List.{append-nil, length-map}
 use Rattle.listing.specs.Reading.{max16, then, entries_from, judged, before, directors, some_directors}
 use Rattle.listing.specs.Reading.{read_entry, read_chain, read_text, chain_of, listed, chained, read_lines}
 use Rattle.listing.specs.Pieces.{words, lines}
-use Rattle.listing.proofs.Lined.{Told, same_told}
+use Rattle.std.specs.Str.{bytes_eq}
 use Rattle.listing.specs.Numbers.{numeral}
 
 -- the commands read so far, and then the others
@@ -96,14 +96,14 @@ unfolding read_chain
 chain_none line all p q = ap chain_of (sym p ∙ q)
 
 pub chain_from : (line w : List ℕ) (all ws : List (List ℕ)) → all ≡ words line → all ≡ w ∷ ws →
-    Told w (codes "chain") true → read_chain line ≡ some_directors ws
+    bytes_eq w (codes "chain") ≡ true → read_chain line ≡ some_directors ws
 unfolding read_chain
-chain_from line w all ws p q t = ap chain_of (sym p ∙ q) ∙ cond-true _ _ _ (same_told _ _ _ t)
+chain_from line w all ws p q t = ap chain_of (sym p ∙ q) ∙ cond-true _ _ _ t
 
 pub chain_other : (line w : List ℕ) (all ws : List (List ℕ)) → all ≡ words line → all ≡ w ∷ ws →
-    Told w (codes "chain") false → read_chain line ≡ None
+    bytes_eq w (codes "chain") ≡ false → read_chain line ≡ None
 unfolding read_chain
-chain_other line w all ws p q t = ap chain_of (sym p ∙ q) ∙ cond-false _ _ _ (same_told _ _ _ t)
+chain_other line w all ws p q t = ap chain_of (sym p ∙ q) ∙ cond-false _ _ _ t
 
 pub some_directors_is : (ws : List (List ℕ)) → 0 < length ws → some_directors ws ≡ directors ws
 some_directors_is [] h = absurd (omega arith)

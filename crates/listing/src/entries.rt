@@ -14,7 +14,7 @@ pub fn read_entry(line: &[u8]) -> Option<Command>
 {
     let mut words = Words::of(line);
     let first = words.next()?;
-    if first == b"noop" {
+    if first == b"noop".as_slice() {
         return end(
             words,
             Command {
@@ -26,13 +26,13 @@ pub fn read_entry(line: &[u8]) -> Option<Command>
             },
         );
     }
-    if first == b"add" {
+    if first == b"add".as_slice() {
         return read_member(words, 1);
     }
-    if first == b"remove" {
+    if first == b"remove".as_slice() {
         return read_member(words, 2);
     }
-    if first == b"change" {
+    if first == b"change".as_slice() {
         return read_change(words);
     }
     None

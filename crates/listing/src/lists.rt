@@ -57,7 +57,7 @@ fn read_members(heap: Global, line: &[u8]) -> Result<Vec<u8>, Fault>
     let Some(first) = words.next() else {
         return Err(Fault::Unreadable { line: 1 });
     };
-    if first == b"chain" {
+    if first == b"chain".as_slice() {
         return read_directors(heap, words);
     }
     Err(Fault::Unreadable { line: 1 })

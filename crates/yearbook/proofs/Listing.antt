@@ -1,14 +1,14 @@
 -- What is known of a list that was read from a text, and of the text that is written of a file.
-use Rattle.std.proofs.Common.{◌≡◌, ℕ, ◌+◌, ◌-◌, ◌*◌, ◌^◌, ◌<◌, ◌≤◌, Bool, true, false, cond, leb, List, [], ◌∷◌, length, Some, None, Ok, Err, Option, Result, sym, refl, ap, ◌∙◌, ap₂, arith}
-use Rattle.std.specs.List.{AllByRecursion as All}
+use Rattle.std.proofs.Common.{◌≡◌, ℕ, ◌+◌, Bool, true, false, cond, leb, List, [], ◌∷◌, length, Some, None, Ok, Err, Option, Result, sym, refl, ap, ◌∙◌, subst, arith}
+use Rattle.std.specs.List.{AllByRecursion}
 use Rattle.command.specs.declared.Command.{Command}
 use Rattle.command.specs.Commands.{well_formed, Sized}
 use Rattle.command.specs.Members.{Membership, valid_chain, founded}
-use Rattle.archive.specs.Layout.{layout, Archive, most}
+use Rattle.archive.specs.Layout.{most}
 use Rattle.archive.specs.Reading.{fault, members_of, scanned}
 use Rattle.archive.specs.Readers.{Exact}
 use Rattle.listing.specs.declared.faults.Fault.{Fault}
-use Rattle.listing.specs.declared.faults.Fault.TheVariants.{InvalidChain, IllFormed, Unreadable}
+use Rattle.listing.specs.declared.faults.Fault.TheVariants.{InvalidChain, IllFormed}
 use Rattle.listing.specs.Law.{Listable}
 use Rattle.listing.specs.Reading.{read_entry, read_chain, before, judged, entries_from, listed, chained, read_lines}
 use Rattle.listing.specs.Reading.{read_text, Listed}
@@ -29,36 +29,36 @@ err_ok h = let z : ◌≡◌ {A = ℕ} 0 1 = cc in omega arith
 
 -- every command of a list that was read is well formed
 judged_formed : (n : ℕ) (o : Option Command) (rest : Result (List Command) Fault) (cs : List Command)
-    → ((ds : List Command) → rest ≡ Ok ds → All (λ c. well_formed c ≡ true) ds) → judged n o rest ≡ Ok cs
-    → All (λ c. well_formed c ≡ true) cs
+    → ((ds : List Command) → rest ≡ Ok ds → AllByRecursion (λ c. well_formed c ≡ true) ds) → judged n o rest ≡ Ok cs
+    → AllByRecursion (λ c. well_formed c ≡ true) cs
 judged_formed n None rest cs h e = absurd (err_ok e)
 judged_formed n (Some c) rest cs h e = go (well_formed c) refl rest h e
   where
     go : (b : Bool) → well_formed c ≡ b → (r : Result (List Command) Fault)
-        → ((ds : List Command) → r ≡ Ok ds → All (λ d. well_formed d ≡ true) ds)
-        → cond b (before c r) (Err (IllFormed n)) ≡ Ok cs → All (λ d. well_formed d ≡ true) cs
-    go true w (Ok ds) h e = let same : c ∷ ds ≡ cs = cc in mathlib.Core.Path.subst
-        (All (λ d. well_formed d ≡ true)) same (w, h ds refl)
+        → ((ds : List Command) → r ≡ Ok ds → AllByRecursion (λ d. well_formed d ≡ true) ds)
+        → cond b (before c r) (Err (IllFormed n)) ≡ Ok cs → AllByRecursion (λ d. well_formed d ≡ true) cs
+    go true w (Ok ds) h e = let same : c ∷ ds ≡ cs = cc in subst
+        (AllByRecursion (λ d. well_formed d ≡ true)) same (w, h ds refl)
     go true w (Err f) h e = absurd (err_ok e)
     go false w r h e = absurd (err_ok e)
 
 entries_formed : (ls : List (List ℕ)) (n : ℕ) (cs : List Command) → entries_from n ls ≡ Ok cs
-    → All (λ c. well_formed c ≡ true) cs
-entries_formed [] n cs e = let same : [] ≡ cs = cc in mathlib.Core.Path.subst (All (λ d. well_formed d ≡ true)) same tt
+    → AllByRecursion (λ c. well_formed c ≡ true) cs
+entries_formed [] n cs e = let same : [] ≡ cs = cc in subst (AllByRecursion (λ d. well_formed d ≡ true)) same tt
 entries_formed (l ∷ ls) n cs e =
     judged_formed n (read_entry l) (entries_from (n + 1) ls) cs (λ ds q. entries_formed ls (n + 1) ds q) e
 
 -- a list as it was read: a founded chain, and well-formed commands
 pub record Sound (l : Listed) : Type 0 where
   pub chain : valid_chain l.chain.members ≡ true
-  pub formed : All (λ c. well_formed c ≡ true) l.commands
+  pub formed : AllByRecursion (λ c. well_formed c ≡ true) l.commands
 
 listed_sound : (m : Membership) (r : Result (List Command) Fault) (l : Listed) → valid_chain m.members ≡ true
-    → ((ds : List Command) → r ≡ Ok ds → All (λ c. well_formed c ≡ true) ds) → listed m r ≡ Ok l → Sound l
+    → ((ds : List Command) → r ≡ Ok ds → AllByRecursion (λ c. well_formed c ≡ true) ds) → listed m r ≡ Ok l → Sound l
 listed_sound m (Err f) l v h e = absurd (err_ok e)
 listed_sound m (Ok cs) l v h e =
     let same : record { chain = m; commands = cs } ≡ l = cc in
-    mathlib.Core.Path.subst Sound same (record { chain = v; formed = h cs refl })
+    subst Sound same (record { chain = v; formed = h cs refl })
 
 chained_sound : (o : Option (List ℕ)) (ls : List (List ℕ)) (l : Listed) → chained o ls ≡ Ok l → Sound l
 chained_sound None ls l e = absurd (err_ok e)
@@ -78,7 +78,7 @@ unfolding read_text
 read_sound text l e = lines_sound (lines text) l e
 
 -- commands of an archive can be written as text
-listables : (cs : List Command) → All (λ c. well_formed c ≡ true) cs → All Sized cs → All Listable cs
+listables : (cs : List Command) → AllByRecursion (λ c. well_formed c ≡ true) cs → AllByRecursion Sized cs → AllByRecursion Listable cs
 listables [] w s = tt
 listables (c ∷ cs) w s = (record { well = w.0; sized = s.0 }, listables cs w.1 s.1)
 

@@ -1,5 +1,5 @@
 -- A year's list, sealed and read back.
-use Rattle.std.specs.Prelude.{◌≡◌, ℕ, ◌+◌, ◌<◌, cond, List, length, Some, None, Ok, Err, vec_items, Result}
+use Rattle.std.specs.Prelude.{◌≡◌, ℕ, ◌+◌, ◌<◌, cond, List, length, Some, None, Ok, Err, vec_items}
 use Rattle.command.specs.Chains.{membership, after_all}
 use Rattle.archive.specs.declared.writing.Refusal.TheVariants.{Full}
 use Rattle.command.specs.declared.Command.{Command}
@@ -7,7 +7,6 @@ use Rattle.archive.specs.Layout.{Archive, layout, most}
 use Rattle.archive.specs.Lists.{refused}
 use Rattle.archive.specs.declared.entries.Entries.{Entries}
 use Rattle.archive.specs.Reading.{fault, members_of, scanned, scan_all}
-use Rattle.listing.specs.declared.faults.Fault.{Fault}
 use Rattle.listing.specs.declared.faults.Fault.TheVariants.{Memory}
 use Rattle.listing.specs.Answers.{is_memory}
 use Rattle.listing.specs.Reading.{read_text, Listed}

@@ -4,7 +4,7 @@ ghost use Rattle.archive.specs.Layout.{Archive};
 ghost use Rattle.command.specs.Commands.{well_formed};
 ghost use Rattle.command.specs.Members.{valid_chain};
 ghost use Rattle.std.specs.Prelude.{◌≡◌, true, MatchResult};
-ghost use Rattle.std.specs.List.{AllByRecursion as All};
+ghost use Rattle.std.specs.List.{AllByRecursion};
 ghost use Rattle.yearbook.specs.Years.{Year, Unsealed, Unfiled};
 
 use crate::SealFault;
@@ -38,7 +38,7 @@ pub fn seal_text(heap: Global, text: &[u8]) -> Result<SealedYear, SealFault>
 // The archive file of a founding chain and commands.
 fn file_of(heap: Global, members: &[u8], commands: &[Command]) -> Result<Vec<u8>, SealFault>
     requires chain { valid_chain members.now ≡ true }
-    requires formed { All (λ c. well_formed c ≡ true) commands.now }
+    requires formed { AllByRecursion (λ c. well_formed c ≡ true) commands.now }
     ensures { MatchResult result (λ v. Archive v.items members.now commands.now)
         (Unfiled commands.now) }
 {

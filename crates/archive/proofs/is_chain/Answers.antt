@@ -1,4 +1,4 @@
-use Rattle.std.proofs.Common.{◌≡◌, Bool, true, false, cond, is_ok, Ok, Err, Result, sym, refl, ap, ◌∙◌}
+use Rattle.std.proofs.Common.{◌≡◌, Bool, true, false, cond, is_ok, Ok, Err, Result, refl, ap, ◌∙◌}
 use Rattle.command.specs.declared.chains.Chain.{Chain}
 use Rattle.command.specs.declared.chains.InvalidChain.{InvalidChain}
 use Rattle.command.specs.Chains.{answered}
@@ -14,5 +14,5 @@ tells true x y = refl
 tells false x y = refl
 
 pub returns : goal.returns
-returns c = c.is-ok.ensures.value ∙ same c.new.result ∙ ap is_ok c.new.ensures
+returns c = c.is_ok.ensures.value ∙ same c.new.result ∙ ap is_ok c.new.ensures
     ∙ tells (valid_chain c.args.members.now) _ _

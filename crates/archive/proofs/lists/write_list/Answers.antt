@@ -1,12 +1,10 @@
-use Rattle.std.proofs.Common.{◌≡◌, ℕ, suc, ◌+◌, List, [], ◌∷◌, ◌++◌, length, get_or, take, drop, replicate, Some, None, Option, sym, refl, ap, ◌∙◌, ap₂, arith}
+use Rattle.std.proofs.Common.{◌≡◌, ℕ, ◌+◌, List, length, take, drop, replicate, Some, sym, refl, ap, ◌∙◌, ap₂, arith}
 use Rattle.std.proofs.lemmas.List.{take_more, take_all}
 use Rattle.std.proofs.lemmas.Bool.{cond-false, ne_eqb}
 use Rattle.command.specs.declared.Command.{Command}
 use Rattle.archive.specs.declared.writing.OpenArchive.{OpenArchive}
 use Rattle.archive.specs.declared.writing.Refusal.{Refusal}
-use Rattle.archive.specs.Layout.{header, entry, Archive}
-use Rattle.archive.specs.Lists.{refused, at_entry, adds_refusal, list_refusal}
-use Rattle.archive.specs.Writing.{begin_refusal, begun, add_refusal, left, Run}
+use Rattle.archive.specs.Lists.{refused, adds_refusal}
 use Rattle.archive.proofs.Calls.{answer_ok, answer_err}
 use Rattle.archive.proofs.Space.{enough_space}
 use Rattle.archive.proofs.WholeLists.{adds_more, adds_stop, adds_end, at_some, left_none, left_some, begun_list}

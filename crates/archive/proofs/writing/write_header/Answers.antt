@@ -8,7 +8,7 @@ returns c =
     let area = c.args.area.now in
     let ms = c.args.members.now in
     let n = length ms in
-    let two = then_over area _ c.write-u8.new.area 0 4 mark (n ∷ []) (omega arith) c.write-bytes.ensures
-    (omega arith) c.write-u8.ensures in
-    then_over area c.write-u8.new.area c.write-bytes-2.new.area 0 5 (mark ++ (n ∷ [])) ms
-    (omega arith) two (omega arith) c.write-bytes-2.ensures
+    let two = then_over area _ c.write_u8.new.area 0 4 mark (n ∷ []) (omega arith) c.write_bytes.ensures
+    (omega arith) c.write_u8.ensures in
+    then_over area c.write_u8.new.area c.write_bytes-2.new.area 0 5 (mark ++ (n ∷ [])) ms
+    (omega arith) two (omega arith) c.write_bytes-2.ensures

@@ -4,14 +4,14 @@ use Rattle.command.specs.Chains.{founding}
 use Rattle.listing.proofs.Whole.{chain_told_is}
 use Rattle.listing.proofs.lists.read_chain.Goals as goal
 
-pub returns-in-err-new : goal.returns-in-err-new
-returns-in-err-new c =
-    let p = err_from_is_err_and c.from-residual-in-err-new.result c.from-residual-in-err-new.ensures.1 in
+pub returns-in_err-new : goal.returns-in_err-new
+returns-in_err-new c =
+    let p = err_from_is_err_and c.from_residual-in_err-new.result c.from_residual-in_err-new.ensures.1 in
     rw (p.1, p.2)
-    (sym (chain_told_is _ _ _ c.in-ok-members.ensures
-    (c.in-err-new.ensures ∙ ap founding c.as-slice.ensures.value)))
+    (sym (chain_told_is _ _ _ c.in_ok-members.ensures
+    (c.in_err-new.ensures ∙ ap founding c.as_slice.ensures.value)))
 
 pub returns : goal.returns
 returns c =
-    sym (chain_told_is _ _ _ c.in-ok-members.ensures
-    (c.in-ok-new.ensures ∙ ap founding c.as-slice.ensures.value))
+    sym (chain_told_is _ _ _ c.in_ok-members.ensures
+    (c.in_ok-new.ensures ∙ ap founding c.as_slice.ensures.value))

@@ -7,8 +7,8 @@ use Rattle.listing.proofs.lists.read_list.Goals as goal
 
 pub returns : goal.returns
 returns c = record {
-  answer = c.read-text.ensures;
+  answer = c.read_text.ensures;
   back = λ ms cs v h e.
-      c.read-text.ensures ∙
-      ap (λ x. cond (spent c.read-text.result) (Err Memory) x) (ap read_text e ∙ text_back ms cs v h);
+      c.read_text.ensures ∙
+      ap (λ x. cond (spent c.read_text.result) (Err Memory) x) (ap read_text e ∙ text_back ms cs v h);
 }

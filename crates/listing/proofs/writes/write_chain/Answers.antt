@@ -6,10 +6,10 @@ use Rattle.listing.proofs.writes.write_chain.Goals as goal
 pub loop-member-preserved : goal.loop-member-preserved
 loop-member-preserved c =
     spaced_more c.args.members.now _ _ _ c.loop-member.member-index c.loop-member-test.true
-    c.loop-member.invariant c.in-ok-write-number.ensures
+    c.loop-member.invariant c.in_ok-write_number.ensures
 
 pub returns : goal.returns
 unfolding encode
 returns c =
     spaced_all c.args.members.now _ _ _ _ (codes "chain") c.loop-member.member-index (omega arith)
-    c.in-ok-push-str.ensures.bytes c.loop-member.invariant c.in-ok-push.ensures.bytes
+    c.in_ok-push_str.ensures.bytes c.loop-member.invariant c.in_ok-push.ensures.bytes

@@ -1,4 +1,4 @@
-use Rattle.std.proofs.Common.{◌≡◌, ℕ, List, ◌++◌, sym, refl, ap, ◌∙◌, ap₂}
+use Rattle.std.proofs.Common.{ℕ, List, ◌++◌, ◌∙◌, ap₂}
 use Rattle.archive.specs.Reading.{scan_all}
 use Rattle.listing.specs.Writing.{entries_text, ending, chain_line}
 use Rattle.yearbook.proofs.Listing.{told}
@@ -7,13 +7,13 @@ use Rattle.yearbook.proofs.reads.text_of.Goals as goal
 pub returns : goal.returns
 returns c =
     let f = c.args.file.now in
-    let opens = c.in-ok-reader.ensures.opens in
+    let opens = c.in_ok-reader.ensures.opens in
     let reads = opens.1 in
-    let chain = c.in-ok-write-chain.ensures
+    let chain = c.in_ok-write_chain.ensures
     ∙ ap₂ (λ (xs ms : List ℕ). xs ++ ending (chain_line ms)) c.new-text.ensures.bytes
     (c.members.ensures ∙ reads.members) in
     let lines = ap₂ (λ (n : ℕ) (xs : List ℕ). entries_text (scan_all n xs).commands)
     (c.entries.ensures.end ∙ reads.end)
     (c.entries.ensures.rest ∙ reads.body) in
-    told f _ c.in-ok-reader.ensures.exact opens.0
-    (c.in-ok-write-entries.ensures ∙ ap₂ (λ (xs ys : List ℕ). xs ++ ys) chain lines)
+    told f _ c.in_ok-reader.ensures.exact opens.0
+    (c.in_ok-write_entries.ensures ∙ ap₂ (λ (xs ys : List ℕ). xs ++ ys) chain lines)

@@ -1,4 +1,4 @@
-use Rattle.std.proofs.Common.{◌≡◌, ℕ, ◌≤◌, Bool, true, false, cond, List, length, take, replicate, Some, None, vec_items, sym, refl, ap, ◌∙◌, subst, ap₂, arith}
+use Rattle.std.proofs.Common.{◌≡◌, ℕ, ◌≤◌, Bool, true, false, cond, List, length, take, Some, None, vec_items, sym, ◌∙◌, subst, ap₂, arith}
 use Rattle.std.proofs.lemmas.Result.{err_from_is_err_and}
 use Rattle.std.proofs.lemmas.List.{with_items_is}
 use Rattle.archive.proofs.Scans.{some_none}
@@ -15,24 +15,24 @@ pub returns : goal.returns
 returns c =
     let ms = c.args.members.now in
     let cs = c.args.commands.now in
-    let law = c.in-ok-sealed.ensures.wrote.1 in
-    let same : take c.in-ok-sealed.sealed.length c.write-list.new.area ≡ vec_items
+    let law = c.in_ok-sealed.ensures.wrote.1 in
+    let same : take c.in_ok-sealed.sealed.length c.write_list.new.area ≡ vec_items
     c.truncate.new.self =
     sym (c.truncate.ensures.items
     ∙ ap₂ (λ (n : ℕ) (xs : List ℕ). take n xs) c.length.ensures
-    (with_items_is c.in-ok-area.area c.write-list.new.area (omega arith))) in
+    (with_items_is c.in_ok-area.area c.write_list.new.area (omega arith))) in
     subst (λ (f : List ℕ). Archive f ms cs) same law
 
-pub returns-in-err-sealed : goal.returns-in-err-sealed
-returns-in-err-sealed c =
-    let p = err_from_is_err_and c.from-residual-in-err-sealed.result c.from-residual-in-err-sealed.ensures.1 in
+pub returns-in_err-sealed : goal.returns-in_err-sealed
+returns-in_err-sealed c =
+    let p = err_from_is_err_and c.from_residual-in_err-sealed.result c.from_residual-in_err-sealed.ensures.1 in
     let space : space_for (length c.args.members.now) (length c.args.commands.now) ≤ length
-    c.as-mut-slice.result.now =
+    c.as_mut_slice.result.now =
     let n = space-is _ c.in-Some.space _ c.in-Some.ensures in
-    let m = c.in-ok-area.ensures.made in
+    let m = c.in_ok-area.ensures.len in
     omega arith in
     rw (p.1, p.2)
     (overfull c.args.commands.now _
-    (sym c.in-err-sealed.ensures.wrote.0
-    ∙ c.in-err-sealed.ensures.space _ c.args.members.now c.args.commands.now space c.requires.chain
+    (sym c.in_err-sealed.ensures.wrote.0
+    ∙ c.in_err-sealed.ensures.space _ c.args.members.now c.args.commands.now space c.requires.chain
     c.requires.formed))

@@ -12,16 +12,16 @@ returns c =
     let area = c.args.area.now in
     let o = c.args.self in
     let d = c.args.command.now in
-    let size = c.entry-size-size.ensures.size in
+    let size = c.entry_size-size.ensures.size in
     let l : o.count < 65535 = omega arith in
     let taken : add_refusal area o d ≡ None =
-    add_taken area o d c.entry-size-size.result (sym c.if-not-is-well-formed.ensures) l size
-    (sym c.if-not-has-room.ensures) in
-    let now : record { at = o.at + c.entry-size-size.result; count = o.count + 1 } ≡ grown o d =
+    add_taken area o d c.entry_size-size.result (sym c.if-not-is_well_formed.ensures) l size
+    (sym c.if-not-has_room.ensures) in
+    let now : record { at = o.at + c.entry_size-size.result; count = o.count + 1 } ≡ grown o d =
     ap (λ (n : ℕ). record { at = o.at + n; count = o.count + 1 }) size in
     let back : Refusal → OpenArchive × Refusal = λ e. (o, e) in
     record {
       answer = ap (answer back None) now ∙ ap (λ x. answer back x (grown o d)) (sym taken);
-      writes = c.write-entry.ensures ∙ ap (λ x. left x area (over area o.at (entry d))) (sym taken);
-      run = λ ms cs r. added area o cs d r c.know-widths.ensures taken c.write-entry.ensures now refl;
+      writes = c.write_entry.ensures ∙ ap (λ x. left x area (over area o.at (entry d))) (sym taken);
+      run = λ ms cs r. added area o cs d r c.know_widths.ensures taken c.write_entry.ensures now refl;
     }

@@ -7,12 +7,12 @@ use Rattle.std.proofs.lemmas.Bool.{cond-true, cond-false}
 use Rattle.archive.proofs.Runs.{sealing}
 use Rattle.archive.proofs.writing.OpenArchive.seal.Goals as goal
 
-pub returns-then-not-has-room : goal.returns-then-not-has-room
-returns-then-not-has-room c =
+pub returns-then-not-has_room : goal.returns-then-not-has_room
+returns-then-not-has_room c =
     let area = c.args.area.now in
     let o = c.args.self in
     let refused : seal_refusal area o ≡ Some NoSpace = cond-false _ None (Some NoSpace)
-    (sym c.if-not-has-room.ensures) in
+    (sym c.if-not-has_room.ensures) in
     let written = ap (λ x. left x area (over area o.at (le 2 o.count))) (sym refused) in
     record {
       answer = ap (λ x. answer (λ e. (o, e)) x (sealed o)) (sym refused);
@@ -24,10 +24,10 @@ pub returns : goal.returns
 returns c =
     let area = c.args.area.now in
     let o = c.args.self in
-    let taken : seal_refusal area o ≡ None = cond-true _ None (Some NoSpace) (sym c.if-not-has-room.ensures) in
-    let written = c.write-u16.ensures ∙ ap (λ x. left x area (over area o.at (le 2 o.count))) (sym taken) in
+    let taken : seal_refusal area o ≡ None = cond-true _ None (Some NoSpace) (sym c.if-not-has_room.ensures) in
+    let written = c.write_u16.ensures ∙ ap (λ x. left x area (over area o.at (le 2 o.count))) (sym taken) in
     record {
       answer = ap (λ x. answer (λ e. (o, e)) x (sealed o)) (sym taken);
       writes = written;
-      run = λ ms cs r. sealing area c.write-u16.new.area o ms cs written r;
+      run = λ ms cs r. sealing area c.write_u16.new.area o ms cs written r;
     }
