@@ -5,9 +5,9 @@ ghost use Rattle.std.specs.Prelude.{◌≡◌, ◌+◌, ◌<◌, ◌≤◌, leng
 ghost use Rattle.area_journal.specs.Layout.{record_bytes, place_bytes, place_at, record_at, command_of, slot_of, entry_of};
 ghost use Rattle.area_journal.specs.Reading.{shortest, capacity_of, promised_of, count_of, place_in, record_in};
 
-use octets::{read_u16, read_u32};
 use command::{Command, SERIAL_BYTES, read_serial};
 use journal::{Entry, MOST_SLOTS};
+use octets::{read_u16, read_u32};
 
 // Where the promised ballot and the settled count stand.
 pub(crate) const PROMISED_AT: usize = 0;

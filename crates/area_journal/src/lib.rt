@@ -12,7 +12,6 @@ mod writing;
 
 pub use areas::AreaJournal;
 pub use faults::OpenFault;
-use journal::Journal;
 pub use layout::SHORTEST;
 
 #[cfg(test)]

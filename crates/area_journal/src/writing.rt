@@ -13,9 +13,9 @@ use crate::checking::BLANK;
 use crate::layout::{
     COUNT_AT, PROMISED_AT, SPAN, capacity_in, count_in, place_at, promised_in, record_at,
 };
-use octets::{write_bytes, write_u16, write_u32};
 use command::{Command, SERIAL_BYTES, Serial, write_serial};
 use journal::Write;
+use octets::{write_bytes, write_u16, write_u32};
 
 // Makes a write if it is taken.
 pub(crate) fn write_in(area: &mut [u8], write: Write) -> bool

@@ -1,5 +1,5 @@
 -- What a log shows of a list of writes.
-use Rattle.std.specs.Prelude.{◌≡◌, ℕ, Bool, List, [], ◌∷◌, ◌++◌, length, take, vec_items, nat_le}
+use Rattle.std.specs.Prelude.{◌≡◌, ℕ, List, [], ◌∷◌, ◌++◌, length, take, vec_items, nat_le}
 use Rattle.journal.specs.declared.writes.Write.{Write}
 use Rattle.logged_journal.specs.declared.logs.Log.{Log}
 

@@ -4,7 +4,7 @@ ghost use Rattle.table_journal.specs.Tables.{table_meaning, table_behind};
 ghost use Rattle.journal.specs.Meaning.{settled_count};
 ghost use Rattle.journal.specs.Windows.{in_window};
 ghost use Rattle.std.specs.Prelude.{◌≡◌};
-ghost use Rattle.std.proofs.Common.{rules, arith};
+ghost use Rattle.std.proofs.Common.{rules};
 
 use crate::TableJournal;
 use crate::making::{BLANK, NOOP};
@@ -29,7 +29,7 @@ impl Journal for TableJournal {
 
     ghost behind = { table_behind };
 
-    ghost within = { first_of (Prim.search rules, Prim.grind (arith, Self.row.coded.inj)) };
+    ghost within = { Prim.search rules };
 
     fn capacity(&self) -> u32 {
         self.capacity

@@ -7,7 +7,6 @@ mod making;
 mod refusals;
 mod tables;
 
-use journal::Journal;
 pub use refusals::TableRefusal;
 pub use tables::TableJournal;
 

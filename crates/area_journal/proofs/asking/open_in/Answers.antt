@@ -11,5 +11,5 @@ returns-then-slot-count-2 c = open_past c.args.area.now c.args.slot (omega arith
 
 pub returns : goal.returns
 returns c =
-    c.entry_of_part.ensures ∙ ap entry_of c.place-in.ensures.bytes
+    c.entry_of.ensures ∙ ap entry_of c.place_in.ensures.bytes
     ∙ open_here c.args.area.now c.args.slot (omega arith) (omega arith)

@@ -8,40 +8,40 @@ use Rattle.area_journal.proofs.checking.fault_in.Goals as goal
 pub returns-then-area-lt-SHORTEST : goal.returns-then-area-lt-SHORTEST
 returns-then-area-lt-SHORTEST c =
     let area = c.args.area.now in
-    record { answer = sym (fault_short area (omega arith)); exact = exact area (area_bytes area c.type-inv.area) }
+    record { answer = sym (fault_short area (omega arith)); exact = exact area (area_bytes area c.type_inv.area) }
 
-pub returns-then-count-in-capacity-in : goal.returns-then-count-in-capacity-in
-returns-then-count-in-capacity-in c =
+pub returns-then-count_in-capacity_in : goal.returns-then-count_in-capacity_in
+returns-then-count_in-capacity_in c =
     let area = c.args.area.now in
     record {
       answer = sym (fault_count area (omega arith) (omega arith));
-      exact = exact area (area_bytes area c.type-inv.area);
+      exact = exact area (area_bytes area c.type_inv.area);
     }
 
 pub returns-in-Some : goal.returns-in-Some
 returns-in-Some c =
     let area = c.args.area.now in
     record {
-      answer = ap (λ n. Some (Broken n)) c.place-at.ensures
+      answer = ap (λ n. Some (Broken n)) c.place_at.ensures
           ∙ sym (fault_place area (omega arith) (omega arith) c.in-Some.i c.in-Some.ensures.answer);
-      exact = exact area (area_bytes area c.type-inv.area);
+      exact = exact area (area_bytes area c.type_inv.area);
     }
 
-pub returns-in-Some-bad-record : goal.returns-in-Some-bad-record
-returns-in-Some-bad-record c =
+pub returns-in-Some-bad_record : goal.returns-in-Some-bad_record
+returns-in-Some-bad_record c =
     let area = c.args.area.now in
     record {
-      answer = ap (λ n. Some (Broken n)) c.record-at.ensures
-          ∙ sym (fault_record area (omega arith) (omega arith) c.in-Some-bad-record.i
-          c.in-default.ensures.answer c.in-Some-bad-record.ensures.answer);
-      exact = exact area (area_bytes area c.type-inv.area);
+      answer = ap (λ n. Some (Broken n)) c.record_at.ensures
+          ∙ sym (fault_record area (omega arith) (omega arith) c.in-Some-bad_record.i
+          c.in_default.ensures.answer c.in-Some-bad_record.ensures.answer);
+      exact = exact area (area_bytes area c.type_inv.area);
     }
 
 pub returns : goal.returns
 returns c =
     let area = c.args.area.now in
     record {
-      answer = sym (fault_none area (omega arith) (omega arith) c.in-default.ensures.answer
-          c.in-default-bad-record.ensures.answer);
-      exact = exact area (area_bytes area c.type-inv.area);
+      answer = sym (fault_none area (omega arith) (omega arith) c.in_default.ensures.answer
+          c.in_default-bad_record.ensures.answer);
+      exact = exact area (area_bytes area c.type_inv.area);
     }

@@ -8,8 +8,8 @@ use Rattle.area_journal.proofs.Meanings.{does, does_not, taken_promise}
 use Rattle.area_journal.proofs.Writes.{promised}
 use Rattle.area_journal.proofs.writing.promise_in.Goals as goal
 
-pub returns-then-ballot-promised-in : goal.returns-then-ballot-promised-in
-returns-then-ballot-promised-in c =
+pub returns-then-ballot-promised_in : goal.returns-then-ballot-promised_in
+returns-then-ballot-promised_in c =
     let area = c.args.area.now in
     let b = c.args.ballot in
     does_not (Promise b) area (taken_promise area b ∙ lt-leb (promised_of area) b (omega arith)) c.requires.sound
@@ -21,7 +21,7 @@ returns c =
     let b = c.args.ballot in
     let fits = c.ranges.ballot.fits in
     let left = promised area (sound_parts area c.requires.sound) b (omega arith) (omega arith) in
-    let e = c.write-u32.ensures in
-    does (Promise b) area c.write-u32.new.area
+    let e = c.write_u32.ensures in
+    does (Promise b) area c.write_u32.new.area
     (taken_promise area b ∙ le-leb (promised_of area) b (omega arith)) e
     (rw (e) left.sound) (rw (e) left.means)

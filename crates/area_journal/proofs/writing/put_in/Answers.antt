@@ -3,20 +3,20 @@ use Rattle.area_journal.specs.Checks.{sound_parts}
 use Rattle.area_journal.proofs.Puts.{did_put, refused_put}
 use Rattle.area_journal.proofs.writing.put_in.Goals as goal
 
-pub takes-put-requires : goal.takes-put-requires
-takes-put-requires c =
+pub takes_put-requires : goal.takes_put-requires
+takes_put-requires c =
     let s = sound_parts c.args.area.now c.requires.sound in
     record { long = s.long; held = s.held }
 
-pub returns-then-not-takes-put : goal.returns-then-not-takes-put
-returns-then-not-takes-put c =
+pub returns-then-not-takes_put : goal.returns-then-not-takes_put
+returns-then-not-takes_put c =
     refused_put c.args.area.now c.args.slot c.args.ballot c.args.command.now c.requires.sound
-    c.if-not-takes-put.ensures
+    c.if-not-takes_put.ensures
 
 pub returns : goal.returns
 returns c =
-    did_put c.args.area.now c.write-entry.new.area c.args.slot c.args.ballot
-    c.place-at-at.result c.args.command.now c.requires.sound (omega (arith, c.ranges.slot.fits))
+    did_put c.args.area.now c.write_entry.new.area c.args.slot c.args.ballot
+    c.place_at-at.result c.args.command.now c.requires.sound (omega (arith, c.ranges.slot.fits))
     (omega (arith, c.ranges.ballot.fits))
-    c.know-widths.ensures (sym c.if-not-takes-put.ensures) c.place-at-at.ensures
-    c.write-entry.ensures
+    c.know_widths.ensures (sym c.if-not-takes_put.ensures) c.place_at-at.ensures
+    c.write_entry.ensures

@@ -3,9 +3,9 @@ use Rattle.area_journal.specs.Opening.{fault}
 use Rattle.area_journal.specs.Checks.{none_sound, sound_parts}
 use Rattle.area_journal.proofs.areas.AreaJournal.open.Goals as goal
 
-pub invariant-of-result : goal.invariant-of-result
-invariant-of-result c =
+pub invariant_of-result : goal.invariant_of-result
+invariant_of-result c =
     let sound = none_sound (vec_items c.args.area)
     (ap fault (sym c.deref.ensures.value) ∙ sym c.in-None.ensures.answer) in
     let long = (sound_parts (vec_items c.args.area) sound).long in
-    (omega arith, (sound, tt))
+    record { long = omega arith; sound = sound }

@@ -4,4 +4,4 @@ use Rattle.area_journal.proofs.journals.AreaJournalJournal.capacity.Goals as goa
 
 pub returns : goal.returns
 unfolding meaning_of
-returns c = c.capacity-in.ensures ∙ ap capacity_of c.deref.ensures.value
+returns c = c.capacity_in.ensures ∙ ap capacity_of c.deref.ensures.value

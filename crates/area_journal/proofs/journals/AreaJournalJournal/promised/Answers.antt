@@ -4,4 +4,4 @@ use Rattle.area_journal.proofs.journals.AreaJournalJournal.promised.Goals as goa
 
 pub returns : goal.returns
 unfolding meaning_of
-returns c = c.promised-in.ensures ∙ ap promised_of c.deref.ensures.value
+returns c = c.promised_in.ensures ∙ ap promised_of c.deref.ensures.value

@@ -6,4 +6,4 @@ use Rattle.area_journal.proofs.journals.AreaJournalJournal.settled_count.Goals a
 
 pub returns : goal.returns
 returns c =
-    c.count-in.ensures ∙ ap count_of c.deref.ensures.value ∙ sym (count_is (bytes_of c.args.self.now))
+    c.count_in.ensures ∙ ap count_of c.deref.ensures.value ∙ sym (count_is (bytes_of c.args.self.now))

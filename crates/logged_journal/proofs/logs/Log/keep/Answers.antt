@@ -1,4 +1,4 @@
-use Rattle.std.proofs.Common.{◌≡◌, ◌<◌, ◌≤◌, length, vec_items, arith}
+use Rattle.std.proofs.Common.{◌<◌, ◌≤◌, length, vec_items, arith}
 use Rattle.logged_journal.proofs.Logging.{first_kept, all_kept, first_lost, all_lost}
 use Rattle.logged_journal.proofs.logs.Log.keep.Goals as goal
 
@@ -19,6 +19,6 @@ returns c ws h =
     let less : length held < l.room = omega arith in
     record {
       first =
-          first_kept l.room ws held _ c.args.write c.push-reserved.ensures.items h.first less;
+          first_kept l.room ws held _ c.args.write c.push_reserved.ensures.items h.first less;
       all = all_kept l.room ws held c.args.write l.complete h.first less h.all;
     }

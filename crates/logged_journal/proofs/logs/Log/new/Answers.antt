@@ -6,5 +6,5 @@ pub returns : goal.returns
 returns c =
     record {
       spacious = refl;
-      none = shows_none _ c.in-ok-writes.ensures.items refl;
+      none = shows_none _ c.in_ok-writes.ensures.items refl;
     }

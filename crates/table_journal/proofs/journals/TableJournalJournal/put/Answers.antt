@@ -1,4 +1,4 @@
-use Rattle.std.proofs.Common.{◌≡◌, ◌≤◌, sym, refl, ⊎_elim, arith}
+use Rattle.std.proofs.Common.{◌≤◌, sym, refl, ⊎_elim, arith}
 use Rattle.journal.specs.Meaning.{fresh, after}
 use Rattle.journal.specs.declared.writes.Write.TheVariants.{Put}
 use Rattle.table_journal.specs.Tables.{table_meaning}
@@ -17,15 +17,15 @@ returns-then-ballot-self c =
     (⊎_elim (put_other_ballot n b d m) (λ h. put_no_ballot n b d m h.1) c.then-ballot-self.either) in
     record { answer = w.answer; after = w.after; behind = w.behind }
 
-pub returns-then-not-is-open : goal.returns-then-not-is-open
-returns-then-not-is-open c =
+pub returns-then-not-is_open : goal.returns-then-not-is_open
+returns-then-not-is_open c =
     let m = table_meaning c.args.self.now in
     let n = c.args.slot in
     let b = c.args.ballot in
     let d = c.args.command.now in
     let w =
     written_untaken (fresh m.capacity) m (Put n b d)
-    (put_outside n b d m (sym c.if-not-is-open.ensures)) in
+    (put_outside n b d m (sym c.if-not-is_open.ensures)) in
     record { answer = w.answer; after = w.after; behind = w.behind }
 
 pub returns-then-slot-self : goal.returns-then-slot-self
@@ -37,15 +37,15 @@ returns-then-slot-self c =
     let w = written_untaken (fresh m.capacity) m (Put n b d) (past_put n b d m c.if-slot-self.true) in
     record { answer = w.answer; after = w.after; behind = w.behind }
 
-pub returns-then-not-is-well-formed : goal.returns-then-not-is-well-formed
-returns-then-not-is-well-formed c =
+pub returns-then-not-is_well_formed : goal.returns-then-not-is_well_formed
+returns-then-not-is_well_formed c =
     let m = table_meaning c.args.self.now in
     let n = c.args.slot in
     let b = c.args.ballot in
     let d = c.args.command.now in
     let w =
     written_untaken (fresh m.capacity) m (Put n b d)
-    (put_ill_formed n b d m (sym c.if-not-is-well-formed.ensures)) in
+    (put_ill_formed n b d m (sym c.if-not-is_well_formed.ensures)) in
     record { answer = w.answer; after = w.after; behind = w.behind }
 
 pub returns : goal.returns
@@ -58,7 +58,7 @@ returns c =
     let some : 1 ≤ b = omega arith in
     let w =
     written_taken (fresh m.capacity) m _ (Put n b d)
-    (put_taken n b d m c.if-ballot-self.false some (sym c.if-not-is-open.ensures) c.if-slot-self.false
-    (sym c.if-not-is-well-formed.ensures))
+    (put_taken n b d m c.if-ballot-self.false some (sym c.if-not-is_open.ensures) c.if-slot-self.false
+    (sym c.if-not-is_well_formed.ensures))
     refl in
     record { answer = w.answer; after = w.after; behind = w.behind }

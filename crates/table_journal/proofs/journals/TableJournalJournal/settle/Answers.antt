@@ -15,10 +15,10 @@ returns-then-count-self c =
     (settle_full c.args.command.now m full) in
     record { answer = w.answer; after = w.after; behind = w.behind }
 
-pub returns-then-not-is-well-formed : goal.returns-then-not-is-well-formed
-returns-then-not-is-well-formed c =
+pub returns-then-not-is_well_formed : goal.returns-then-not-is_well_formed
+returns-then-not-is_well_formed c =
     let m = table_meaning c.args.self.now in
-    let ill = sym c.if-not-is-well-formed.ensures in
+    let ill = sym c.if-not-is_well_formed.ensures in
     let w =
     written_untaken (fresh m.capacity) m (Settle c.args.command.now)
     (settle_ill_formed c.args.command.now m ill) in
@@ -30,8 +30,8 @@ returns c =
     let command = c.args.command.now in
     let count : c.len-count.result ≡ settled_count m = omega arith in
     let less : settled_count m < m.capacity = omega arith in
-    let well = sym c.if-not-is-well-formed.ensures in
+    let well = sym c.if-not-is_well_formed.ensures in
     let w =
     written_taken (fresh m.capacity) m _ (Settle command) (settle_taken command m less well)
-    (settle_after command m _ _ c.push-reserved.ensures.items count) in
+    (settle_after command m _ _ c.push_reserved.ensures.items count) in
     record { answer = w.answer; after = w.after; behind = w.behind }
