@@ -9,20 +9,29 @@ use anyhow::anyhow;
 use area_journal::{AreaJournal, OpenFault};
 use journal::Journal;
 use std::alloc::{AllocError, Global};
+use std::process::ExitCode;
 use std::{env, fs};
 
 const USAGE: &str = "dump: usage: dump | dump FILE";
 
-fn main(rt: HostRuntime) -> anyhow::Result<()> {
-    let mut given = env::args(&rt)?;
+// What went wrong was said where it was found, so that an error only sets the status.
+fn main(rt: HostRuntime) -> ExitCode {
+    match run(&rt) {
+        Ok(()) => ExitCode::SUCCESS,
+        Err(_) => ExitCode::FAILURE,
+    }
+}
+
+fn run(rt: &HostRuntime) -> anyhow::Result<()> {
+    let mut given = env::args(rt)?;
     let _program = given.next();
     let Some(file) = given.next() else {
-        return demo::run(&rt);
+        return demo::run(rt);
     };
     if given.next().is_some() {
-        return fail(&rt, USAGE);
+        return fail(rt, USAGE);
     }
-    dump(&rt, file.as_str())
+    dump(rt, file.as_str())
 }
 
 // Opens the area in a file and prints it.
