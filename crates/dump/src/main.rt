@@ -14,7 +14,7 @@ use std::{env, fs};
 
 const USAGE: &str = "dump: usage: dump | dump FILE";
 
-// What went wrong was said where it was found, so that an error only sets the status.
+// A refusal was said where it was found: an error only sets the status.
 fn main(rt: HostRuntime) -> ExitCode {
     match run(&rt) {
         Ok(()) => ExitCode::SUCCESS,

@@ -13,7 +13,7 @@ use std::process::ExitCode;
 const USAGE: &str =
     "year: usage: year | year seal LIST FILE | year read FILE | year show FILE [ledger]";
 
-// What went wrong was said where it was found, so that an error only sets the status.
+// A refusal was said where it was found: an error only sets the status.
 fn main(rt: HostRuntime) -> ExitCode {
     match run(&rt) {
         Ok(()) => ExitCode::SUCCESS,
