@@ -16,7 +16,7 @@ use Rattle.archive.specs.declared.writing.Refusal.TheVariants.{IllFormed, Invali
 use Rattle.archive.specs.Layout.{header, entry, entries, layout}
 use Rattle.archive.specs.Writing.{left, has_room, begin_refusal, begun, add_refusal, grown, seal_refusal, Run}
 use Rattle.archive.specs.Writing.{began, added, Sealed}
-use Rattle.archive.proofs.Scans.{some_none}
+use Rattle.archive.proofs.OneEntry.{some_none}
 
 -- the front of the area is header and entries, the archive tells where they end and how many there are, the count has
 -- room
