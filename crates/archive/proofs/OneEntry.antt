@@ -8,8 +8,8 @@ use Rattle.octets.proofs.Numbers.{Bytes, num_le}
 use Rattle.octets.proofs.Areas.{part_more, part_two}
 use Rattle.octets.proofs.Parts.{part_join, le_part, num_part}
 use Rattle.command.specs.declared.Command.{Command}
-use Rattle.command.specs.declared.Verb.{Verb}
-use Rattle.command.specs.declared.Verb.TheVariants.{Noop, Add, Remove, Change}
+use Rattle.command.specs.declared.verbs.Verb.{Verb}
+use Rattle.command.specs.declared.verbs.Verb.TheVariants.{Noop, Add, Remove, Change}
 use Rattle.command.specs.Commands.{verb_of, untold, fits, well_formed, serial_bytes, Sized}
 use Rattle.archive.specs.Layout.{entry_as, entry}
 use Rattle.archive.specs.Reading.{size_as, within, size_of, directed, command_as, command_of}

@@ -5,8 +5,8 @@ use Rattle.std.proofs.lemmas.Bool.{le-leb, lt-leb, le-ltb, cases_lt, cond-true, 
 use Rattle.octets.specs.Areas.{over}
 use Rattle.octets.proofs.Areas.{length_over}
 use Rattle.command.specs.declared.Command.{Command}
-use Rattle.command.specs.declared.Verb.{Verb}
-use Rattle.command.specs.declared.Verb.TheVariants.{Noop, Add, Remove, Change}
+use Rattle.command.specs.declared.verbs.Verb.{Verb}
+use Rattle.command.specs.declared.verbs.Verb.TheVariants.{Noop, Add, Remove, Change}
 use Rattle.command.specs.Commands.{verb_of, well_formed, serial_bytes}
 use Rattle.archive.specs.declared.writing.OpenArchive.{OpenArchive}
 use Rattle.archive.specs.declared.writing.Refusal.TheVariants.{IllFormed, Full}

@@ -3,8 +3,8 @@ use Rattle.std.specs.Prelude.{◌≡◌, ℕ, ◌≤◌, true, List, [], ◌∷�
 use Rattle.std.specs.List.{flat_map, AllByRecursion}
 use Rattle.octets.specs.Numbers.{le}
 use Rattle.command.specs.declared.Command.{Command}
-use Rattle.command.specs.declared.Verb.{Verb}
-use Rattle.command.specs.declared.Verb.TheVariants.{Noop, Add, Remove, Change}
+use Rattle.command.specs.declared.verbs.Verb.{Verb}
+use Rattle.command.specs.declared.verbs.Verb.TheVariants.{Noop, Add, Remove, Change}
 use Rattle.command.specs.Commands.{verb_of, well_formed, serial_bytes, Sized}
 use Rattle.command.specs.Members.{valid_chain}
 

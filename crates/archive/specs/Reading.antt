@@ -4,8 +4,8 @@ use Rattle.std.specs.List.{starts_with}
 use Rattle.octets.specs.Areas.{part}
 use Rattle.octets.specs.Numbers.{num}
 use Rattle.command.specs.declared.Command.{Command}
-use Rattle.command.specs.declared.Verb.{Verb}
-use Rattle.command.specs.declared.Verb.TheVariants.{Noop, Add, Remove, Change}
+use Rattle.command.specs.declared.verbs.Verb.{Verb}
+use Rattle.command.specs.declared.verbs.Verb.TheVariants.{Noop, Add, Remove, Change}
 use Rattle.command.specs.Commands.{verb_of, serial_bytes}
 use Rattle.command.specs.Members.{valid_chain}
 use Rattle.archive.specs.declared.reading.Broken.{Broken}

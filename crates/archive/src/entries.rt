@@ -5,10 +5,10 @@ ghost use Rattle.archive.specs.Layout.{entry};
 ghost use Rattle.archive.specs.Reading.{size_of, command_as, command_of, decoded};
 ghost use Rattle.command.specs.Commands.{well_formed, serial_bytes, Sized};
 ghost use Rattle.command.specs.declared.Command.{Command};
-ghost use Rattle.command.specs.declared.Verb.TheVariants.{Change};
+ghost use Rattle.command.specs.declared.verbs.Verb.TheVariants.{Change};
 
-use command::{Command, SERIAL_BYTES, Verb, read_serial};
-use octets::read_u16;
+use command::{Command, SERIAL_BYTES, Serial, UnknownVerb, Verb};
+use octets::Number;
 
 /// An entry: the part of the file that holds it, and the offset where it begins.
 #[derive(Clone, Copy, PartialEq, Eq, Debug)]
@@ -24,15 +24,6 @@ pub struct Entries<'a> {
     pub(crate) end: usize,
     ghost within: { length rest.now ≤ end },
 }
-
-// The command that changes nothing.
-const NOOP: Command = Command {
-    verb: 0,
-    origin: 0,
-    serial: 0,
-    a: 0,
-    b: 0,
-};
 
 impl Entry<'_> {
     /// The command that the entry tells, if its bytes are one whole entry: those of a reader always are.
@@ -84,14 +75,14 @@ fn command_of(bytes: &[u8]) -> Command
     ensures { result ≡ command_of bytes.now }
 {
     let verb = bytes[0];
-    match Verb::of(verb) {
-        None | Some(Verb::Noop) => NOOP,
-        Some(Verb::Add | Verb::Remove) => Command {
+    match Verb::try_from(verb) {
+        Err(UnknownVerb(_)) | Ok(Verb::Noop) => Command::NOOP,
+        Ok(Verb::Add | Verb::Remove) => Command {
             verb,
             a: bytes[1] as u16,
-            ..NOOP
+            ..Command::NOOP
         },
-        Some(Verb::Change) => change_of(bytes),
+        Ok(Verb::Change) => change_of(bytes),
     }
 }
 
@@ -102,10 +93,10 @@ fn change_of(bytes: &[u8]) -> Command
 {
     Command {
         verb: bytes[0],
-        origin: read_u16(bytes, 1),
-        serial: read_serial(bytes, 3),
-        a: read_u16(bytes, 3 + SERIAL_BYTES),
-        b: read_u16(bytes, 5 + SERIAL_BYTES),
+        origin: u16::read_le(bytes, 1),
+        serial: Serial::read_le(bytes, 3),
+        a: u16::read_le(bytes, 3 + SERIAL_BYTES),
+        b: u16::read_le(bytes, 5 + SERIAL_BYTES),
     }
 }
 
@@ -114,7 +105,7 @@ fn size_of(bytes: &[u8]) -> Option<usize>
     ensures { result ≡ size_of bytes.now }
 {
     let (verb, others) = bytes.split_first()?;
-    let size = match Verb::of(*verb)? {
+    let size = match Verb::try_from(*verb).ok()? {
         Verb::Noop => 1,
         Verb::Add | Verb::Remove => {
             if *others.first()? > 31 {

@@ -6,7 +6,7 @@ ghost use Rattle.archive.specs.Reading.{refusal_number, offset_of, fault, scanne
 ghost use Rattle.command.specs.declared.Command.{Command};
 
 use crate::{COUNT_BYTES, Entries, Entry, HEADER_BYTES, MARK, is_chain};
-use octets::read_u16;
+use octets::Number;
 use std::error::Error;
 use std::fmt;
 
@@ -83,7 +83,7 @@ impl<'a> Reader<'a> {
         }
         let rest = &file[start..end];
         let count = count_entries(Entries { rest, end })?;
-        if read_u16(file, end) as usize != count {
+        if u16::read_le(file, end) as usize != count {
             return Err(Broken::Count { offset: end });
         }
         Ok(Reader { file, count })

@@ -7,8 +7,8 @@ ghost use Rattle.octets.specs.Areas.{over};
 ghost use Rattle.command.specs.Commands.{well_formed, Sized};
 
 use crate::{COUNT_BYTES, HEADER_BYTES, MARK, is_chain};
-use command::{Command, SERIAL_BYTES, Verb, write_serial};
-use octets::{write_bytes, write_u8, write_u16};
+use command::{Command, SERIAL_BYTES, UnknownVerb, Verb};
+use octets::{Number, write_bytes};
 use std::error::Error;
 use std::fmt;
 
@@ -108,7 +108,7 @@ impl OpenArchive {
             return Err((self, Refusal::NoSpace));
         }
         let OpenArchive { at, count } = self;
-        write_u16(area, at, count);
+        count.write_le(area, at);
         Ok(SealedArchive {
             length: at + COUNT_BYTES,
         })
@@ -148,7 +148,7 @@ fn write_header(area: &mut [u8], members: &[u8])
     ensures { area.new ≡ over area.old 0 (header members.now) }
 {
     write_bytes(area, 0, &MARK);
-    write_u8(area, 4, members.len() as u8);
+    write_bytes(area, 4, &[members.len() as u8]);
     write_bytes(area, 5, members);
 }
 
@@ -160,7 +160,7 @@ fn entry_size(command: &Command) -> Option<usize>
     if !command.is_well_formed() {
         return None;
     }
-    let size = match Verb::of(command.verb)? {
+    let size = match Verb::try_from(command.verb).ok()? {
         Verb::Noop => 1,
         Verb::Add | Verb::Remove => 2,
         Verb::Change => 7 + SERIAL_BYTES,
@@ -182,15 +182,16 @@ fn write_entry(area: &mut [u8], at: usize, command: &Command)
         a,
         b,
     } = *command;
-    write_u8(area, at, verb);
-    match Verb::of(verb) {
-        None | Some(Verb::Noop) => {}
-        Some(Verb::Add | Verb::Remove) => write_u8(area, at + 1, a as u8),
-        Some(Verb::Change) => {
-            write_u16(area, at + 1, origin);
-            write_serial(area, at + 3, serial);
-            write_u16(area, at + 3 + SERIAL_BYTES, a);
-            write_u16(area, at + 5 + SERIAL_BYTES, b);
+    match Verb::try_from(verb) {
+        Err(UnknownVerb(_)) => {}
+        Ok(Verb::Noop) => write_bytes(area, at, &[verb]),
+        Ok(Verb::Add | Verb::Remove) => write_bytes(area, at, &[verb, a as u8]),
+        Ok(Verb::Change) => {
+            write_bytes(area, at, &[verb]);
+            origin.write_le(area, at + 1);
+            serial.write_le(area, at + 3);
+            a.write_le(area, at + 3 + SERIAL_BYTES);
+            b.write_le(area, at + 5 + SERIAL_BYTES);
         }
     }
 }

@@ -10,19 +10,19 @@ returns-in_err-count-clause-opens c =
     (fault_entry c.args.file.now c.if-file-lt-SHORTEST.false (sym c.if-not-starts_with.ensures.value)
     c.if-start-end.false (sym c.if-not-is_chain.ensures) _ c.in_err-count.ensures ∙ ap Some (sym p.2))
 
-pub returns-then-read_u16-count-clause-opens : goal.returns-then-read_u16-count-clause-opens
-returns-then-read_u16-count-clause-opens c =
+pub returns-then-read_le-count-clause-opens : goal.returns-then-read_le-count-clause-opens
+returns-then-read_le-count-clause-opens c =
     fault_count c.args.file.now c.if-file-lt-SHORTEST.false (sym c.if-not-starts_with.ensures.value)
     c.if-start-end.false (sym c.if-not-is_chain.ensures) c.in_ok-count.count c.in_ok-count.ensures
-    c.read_u16.result c.read_u16.ensures c.if-read_u16-count.true
+    c.read_le.result c.read_le.ensures c.if-read_le-count.true
 
 pub invariant_of-result : goal.invariant_of-result
 invariant_of-result c =
     record {
       whole = fault_none c.args.file.now c.if-file-lt-SHORTEST.false (sym c.if-not-starts_with.ensures.value)
           c.if-start-end.false (sym c.if-not-is_chain.ensures) c.in_ok-count.count c.in_ok-count.ensures
-          c.read_u16.result c.read_u16.ensures c.if-read_u16-count.false;
+          c.read_le.result c.read_le.ensures c.if-read_le-count.false;
       counted = count_is c.args.file.now c.if-file-lt-SHORTEST.false (sym c.if-not-starts_with.ensures.value)
           c.if-start-end.false (sym c.if-not-is_chain.ensures) c.in_ok-count.count c.in_ok-count.ensures
-          c.read_u16.result c.read_u16.ensures;
+          c.read_le.result c.read_le.ensures;
     }
