@@ -1,7 +1,8 @@
 -- Going through the entries: it finds just the commands whose entries the bytes are.
 use Rattle.std.proofs.Common.{◌≡◌, ℕ, zero, suc, ◌+◌, ◌-◌, ◌<◌, ◌≤◌, true, List, [], ◌∷◌, ◌++◌, length, get_or, take, drop, Some, None, Ok, Err, Option, sym, refl, ap, ◌∙◌, ap₂, arith}
-use Rattle.std.specs.List.{AllByRecursion}
+use Rattle.std.specs.List.{All, AllPass}
 use Rattle.std.proofs.ByRecursion.{All-drop}
+use Rattle.std.proofs.lemmas.List.Elements.{All-nil, All-cons, All-head, All-tail}
 use Rattle.std.proofs.lemmas.List.{nil_from_length, length-drop, drop_at, take-append-drop}
 use Rattle.octets.proofs.Numbers.{Bytes}
 use Rattle.command.specs.declared.Command.{Command}
@@ -120,21 +121,21 @@ given_shorter s t x g =
     omega (arith, ap length k.1.left, length-drop k.0 s.rest.now)
 
 -- what was written of a list is found again
-pub scan_entries : (cs : List Command) (i : ℕ) → AllByRecursion (λ c. well_formed c ≡ true) cs → AllByRecursion Sized cs
+pub scan_entries : (cs : List Command) (i : ℕ) → AllPass well_formed cs → All Sized cs
     → scan_all i (entries cs) ≡ found cs None
 scan_entries [] i h s = scan_end i
 scan_entries (c ∷ cs) i h s =
-    let r = reread c (entries cs) h.0 s.0 in
+    let r = reread c (entries cs) (All-head (λ d. well_formed d ≡ true) c cs h) (All-head Sized c cs s) in
     let left = drop_at (entry c) (entries cs) (length (entry c)) refl in
     scan_more i (entry c ++ entries cs) (length (entry c)) r.size
     ∙ ap₂ (λ (d : Command) (xs : List ℕ). and_then d (scan_all i xs)) r.same left
-    ∙ ap (and_then c) (scan_entries cs i h.1 s.1)
+    ∙ ap (and_then c) (scan_entries cs i (All-tail (λ d. well_formed d ≡ true) c cs h) (All-tail Sized c cs s))
 
 -- bytes whose entries are all whole are what is written of the commands that were found
 pub record Whole (bs : List ℕ) (cs : List Command) : Type 0 where
   pub bytes : entries cs ≡ bs
-  pub formed : AllByRecursion (λ c. well_formed c ≡ true) cs
-  pub sized : AllByRecursion Sized cs
+  pub formed : AllPass well_formed cs
+  pub sized : All Sized cs
 
 -- one step of that, whether or not the first entry is whole
 entries_step : (i : ℕ) (bs : List ℕ) (o : Option ℕ) → size_of bs ≡ o → Bytes bs → (f : List ℕ → Found)
@@ -146,14 +147,14 @@ entries_step i bs (Some s) q b f next e =
     let w = next s refl e in
     record {
       bytes = ap₂ (λ (xs ys : List ℕ). xs ++ ys) r.bytes w.bytes ∙ take-append-drop s bs;
-      formed = (r.formed, w.formed);
-      sized = (r.sized, w.sized);
+      formed = All-cons (λ d. well_formed d ≡ true) _ _ r.formed w.formed;
+      sized = All-cons Sized _ _ r.sized w.sized;
     }
 
 entries_scan : (k i : ℕ) (bs : List ℕ) → length bs ≤ k → Bytes bs → (scan k i bs).broken ≡ None
     → Whole bs (scan k i bs).commands
 unfolding scan
-entries_scan k i [] h b e = record { bytes = refl; formed = tt; sized = tt }
+entries_scan k i [] h b e = record { bytes = refl; formed = All-nil (λ d. well_formed d ≡ true); sized = All-nil Sized }
 entries_scan zero i (x ∷ bs) h b e = absurd (none_some (sym e))
 entries_scan (suc k) i (x ∷ bs) h b e =
     entries_step i (x ∷ bs) (size_of (x ∷ bs)) refl b (scan k i)

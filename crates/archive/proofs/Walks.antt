@@ -6,9 +6,10 @@ use Rattle.archive.specs.Readers.{Gives, shown}
 use Rattle.std.specs.Iterator.{Yields}
 use Rattle.std.specs.Option.{MatchOption}
 use lib.Dec.{leb-suc-zero, leb-suc-suc}
-use Rattle.std.specs.List.{AllByRecursion}
+use Rattle.std.specs.List.{All, AllPass}
 use Rattle.std.proofs.lemmas.Bool.{cond-true, cond-false, lt-ltb}
 use Rattle.std.proofs.lemmas.List.{length-append, drop_at, take_at}
+use Rattle.std.proofs.lemmas.List.Elements.{All-head, All-tail}
 use Rattle.command.specs.declared.Command.{Command}
 use Rattle.command.specs.Commands.{well_formed, Sized}
 use Rattle.archive.specs.Layout.{header, entry, entries, Archive}
@@ -29,13 +30,13 @@ told e cs m =
     (Some (e - length (entries cs) + length (entries (take m cs)), entry (get_or cs m noop)))
     None
 
-walked : (m : ℕ) (cs : List Command) (e : ℕ) → AllByRecursion (λ c. well_formed c ≡ true) cs → AllByRecursion Sized cs
+walked : (m : ℕ) (cs : List Command) (e : ℕ) → AllPass well_formed cs → All Sized cs
     → length (entries cs) ≤ e
     → entry_at (suc m) e (entries cs) ≡ told e cs m
 unfolding told
 walked m [] e h s l = entry_none m e [] refl ∙ sym (cond-false (ltb m 0) _ None (leb-suc-zero m))
 walked zero (c ∷ cs) e h s l =
-    let r = reread c (entries cs) h.0 s.0 in
+    let r = reread c (entries cs) (All-head (λ d. well_formed d ≡ true) c cs h) (All-head Sized c cs s) in
     let bs = entry c ++ entries cs in
     let offset : e - length bs ≡ e - length bs + 0 = omega arith in
     let make : ℕ → List ℕ → Option (ℕ × List ℕ) = λ i xs. Some (i, xs) in
@@ -43,7 +44,7 @@ walked zero (c ∷ cs) e h s l =
     ∙ ap₂ make offset (take_at (entry c) (entries cs) (length (entry c)) refl)
     ∙ sym (cond-true (ltb 0 (suc (length cs))) _ None (lt-ltb 0 (suc (length cs)) (omega arith)))
 walked (suc m) (c ∷ cs) e h s l =
-    let r = reread c (entries cs) h.0 s.0 in
+    let r = reread c (entries cs) (All-head (λ d. well_formed d ≡ true) c cs h) (All-head Sized c cs s) in
     let bs = entry c ++ entries cs in
     let long = length-append (entry c) (entries cs) in
     let taken = length-append (entry c) (entries (take m cs)) in
@@ -54,7 +55,7 @@ walked (suc m) (c ∷ cs) e h s l =
     let test : ltb m (length cs) ≡ ltb (suc m) (suc (length cs)) = sym (leb-suc-suc (suc m) (length cs)) in
     let make : Bool → ℕ → Option (ℕ × List ℕ) = λ b i. cond b (Some (i, entry (get_or cs m noop))) None in
     ap (λ o. entry_at (suc m) e (after o bs)) r.size
-    ∙ ap (entry_at (suc m) e) left ∙ walked m cs e h.1 s.1 (omega arith) ∙ ap₂ make test offset
+    ∙ ap (entry_at (suc m) e) left ∙ walked m cs e (All-tail (λ d. well_formed d ≡ true) c cs h) (All-tail Sized c cs s) (omega arith) ∙ ap₂ make test offset
 
 pub entry_of_part : (f ms : List ℕ) (cs : List Command) (n : ℕ) → Archive f ms cs
     → entry_at n (count_at f) (body_of f) ≡ entry_of ms cs n

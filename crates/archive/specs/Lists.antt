@@ -1,6 +1,6 @@
 -- What writing a whole list comes to.
 use Rattle.std.specs.Prelude.{◌≡◌, ℕ, ◌+◌, ◌*◌, ◌≤◌, true, cond, List, [], ◌∷◌, length, take, replicate, Some, None, Ok, Err, Option, Result, nat_le}
-use Rattle.std.specs.List.{AllByRecursion}
+use Rattle.std.specs.List.{AllPass}
 use Rattle.octets.specs.Areas.{over}
 use Rattle.command.specs.declared.Command.{Command}
 use Rattle.command.specs.Commands.{well_formed, serial_bytes}
@@ -48,5 +48,5 @@ space_for members commands = commands * (7 + serial_bytes) + (members + 7)
 abbrev pub EnoughSpace : Type 0
 EnoughSpace =
     (area ms : List ℕ) (cs : List Command) → space_for (length ms) (length cs) ≤ length area → valid_chain ms ≡ true
-    → AllByRecursion (λ c. well_formed c ≡ true) cs
+    → AllPass well_formed cs
     → list_refusal area ms cs ≡ cond (nat_le (length cs) most) None (Some (Entry (most + 1) Full))

@@ -11,7 +11,7 @@ use command::{Command, SERIAL_BYTES, Serial, UnknownVerb, Verb};
 use octets::Number;
 
 /// An entry: the part of the file that holds it, and the offset where it begins.
-#[derive(Clone, Copy, PartialEq, Eq, Debug)]
+#[derive(Clone, Copy, PartialEq, Eq, Hash, Debug)]
 pub struct Entry<'a> {
     pub offset: usize,
     pub bytes: &'a [u8],
@@ -115,9 +115,5 @@ fn size_of(bytes: &[u8]) -> Option<usize>
         }
         Verb::Change => 7 + SERIAL_BYTES,
     };
-    if size <= bytes.len() {
-        Some(size)
-    } else {
-        None
-    }
+    (size <= bytes.len()).then_some(size)
 }

@@ -2,7 +2,7 @@
 
 ghost use Rattle.std.specs.Prelude.{◌≡◌, ℕ, List, length, None};
 ghost use Rattle.archive.specs.Layout.{Archive};
-ghost use Rattle.archive.specs.Reading.{refusal_number, offset_of, fault, scanned, scan_all, counted, members_of, count_at, body_of, entry_at, entry_of};
+ghost use Rattle.archive.specs.Reading.{refusal_number, offset_of, fault, scanned, scan_all, counted, members_of, start_of, count_at, body_of, entry_at, entry_of};
 ghost use Rattle.command.specs.declared.Command.{Command};
 
 use crate::{COUNT_BYTES, Entries, Entry, HEADER_BYTES, MARK, is_chain};
@@ -14,7 +14,7 @@ use std::fmt;
 const SHORTEST: usize = 8;
 
 /// A file that was found whole.
-#[derive(Clone, Copy)]
+#[derive(Clone, Copy, Debug)]
 pub struct Reader<'a> {
     pub file: &'a [u8],
     count: usize,
@@ -93,8 +93,7 @@ impl<'a> Reader<'a> {
     pub fn members(&self) -> &'a [u8]
         ensures { result.now ≡ members_of self.now.file.now }
     {
-        let start = HEADER_BYTES + self.file[4] as usize;
-        &self.file[HEADER_BYTES..start]
+        &self.file[HEADER_BYTES..self.start()]
     }
 
     /// How many entries the file has.
@@ -110,9 +109,15 @@ impl<'a> Reader<'a> {
         ensures end { result.end ≡ count_at self.now.file.now }
     {
         let end = self.file.len() - COUNT_BYTES;
-        let start = HEADER_BYTES + self.file[4] as usize;
-        let rest = &self.file[start..end];
+        let rest = &self.file[self.start()..end];
         Entries { rest, end }
+    }
+
+    // Where the entries begin.
+    fn start(&self) -> usize
+        ensures { result ≡ start_of self.now.file.now }
+    {
+        HEADER_BYTES + self.file[4] as usize
     }
 
     /// Entry n, counted from 1, as its offset and its bytes, a part of the file, if there is one.

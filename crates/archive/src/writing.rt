@@ -1,6 +1,6 @@
 //! The writer: an open archive that grows entry by entry and is spent by seal or strike.
 
-ghost use Rattle.std.specs.Prelude.{◌≡◌, ◌+◌, ◌<◌, ◌≤◌, true, length, replicate, Some, IfSome};
+ghost use Rattle.std.specs.Prelude.{◌≡◌, ◌+◌, ◌<◌, ◌≤◌, true, length, replicate, Some};
 ghost use Rattle.archive.specs.Layout.{header, entry};
 ghost use Rattle.archive.specs.Writing.{refusal_number, has_room, entry_size, Begins, Adds, Seals};
 ghost use Rattle.octets.specs.Areas.{over};
@@ -14,13 +14,14 @@ use std::fmt;
 
 /// An archive that is being written: where its next part goes, and how many entries it has. It tells no length,
 /// and it cannot be let go: seal or strike ends it.
+#[derive(PartialEq, Eq, Debug)]
 pub struct OpenArchive {
     at: usize,
     count: u16,
 }
 
 /// A finished archive: the first `length` bytes of its area are the file.
-#[derive(Drop)]
+#[derive(Drop, PartialEq, Eq, Debug)]
 pub struct SealedArchive {
     length: usize,
 }
@@ -134,12 +135,12 @@ impl SealedArchive {
 
 // Whether this many more bytes from offset `at` on, and the count after them, lie within the area.
 fn has_room(area: &[u8], at: usize, size: usize) -> bool
-    requires { size < 1000 }
     ensures { result ≡ has_room area.now at size }
 {
     area.len()
         .checked_sub(at)
-        .is_some_and(|left| size + COUNT_BYTES <= left)
+        .and_then(|left| left.checked_sub(COUNT_BYTES))
+        .is_some_and(|left| size <= left)
 }
 
 // Writes mark, length and members.
@@ -149,13 +150,12 @@ fn write_header(area: &mut [u8], members: &[u8])
 {
     write_bytes(area, 0, &MARK);
     write_bytes(area, 4, &[members.len() as u8]);
-    write_bytes(area, 5, members);
+    write_bytes(area, HEADER_BYTES, members);
 }
 
 // How many bytes the entry of a command takes, if it may stand in a list.
 fn entry_size(command: &Command) -> Option<usize>
-    ensures size { result ≡ entry_size command.now }
-    ensures small { IfSome result (λ n. n < 1000) }
+    ensures { result ≡ entry_size command.now }
 {
     if !command.is_well_formed() {
         return None;

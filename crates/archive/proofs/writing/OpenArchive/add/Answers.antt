@@ -12,7 +12,7 @@ returns c =
     let area = c.args.area.now in
     let o = c.args.self in
     let d = c.args.command.now in
-    let size = size_told d c.in-Some.size c.in-Some.ensures.size in
+    let size = size_told d c.in-Some.size c.in-Some.ensures in
     let l : o.count < 65535 = omega arith in
     let taken : add_refusal area o d ≡ None =
     add_taken area o d c.in-Some.size size.0 l size.1 (sym c.if-not-has_room.ensures) in
