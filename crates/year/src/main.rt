@@ -5,7 +5,8 @@
 mod demo;
 mod jobs;
 mod show;
-mod words;
+#[cfg(test)]
+mod tests;
 
 use layers::Stack;
 use machine::Ledger;
