@@ -115,11 +115,21 @@ pub reread : (c : Command) (t : List ℕ) → well_formed c ≡ true → Sized c
 reread c t h s = reread_as (verb_of c.verb) c t refl h s
 
 -- what an entry's size tells where there is one
-within_some : (s left n : ℕ) → within left (Some s) ≡ Some n → (n ≡ s) × (s ≤ left)
+pub within_some : (s left n : ℕ) → within left (Some s) ≡ Some n → (n ≡ s) × (s ≤ left)
 within_some s left n h =
     elim (cases_Bool (leb s left)) [
       | inl y ↦ (let e = sym (cond-true (leb s left) (Some s) None y) ∙ h in cc, leb-true s left y)
       | inr z ↦ absurd (none_some (sym (cond-false (leb s left) (Some s) None z) ∙ h))
+    ]
+
+-- the same of an add or a remove
+pub directed_some : (a left n : ℕ) → within left (cond (leb a 31) (Some 2) None) ≡ Some n
+    → (leb a 31 ≡ true) × (n ≡ 2) × (2 ≤ left)
+directed_some a left n h =
+    elim (cases_Bool (leb a 31)) [
+      | inl y ↦
+          let w = within_some 2 left n (ap (within left) (sym (cond-true (leb a 31) (Some 2) None y)) ∙ h) in (y, w.0, w.1)
+      | inr z ↦ absurd (none_some (ap (within left) (sym (cond-false (leb a 31) (Some 2) None z)) ∙ h))
     ]
 
 -- a command as it was read is such as a list may hold, and is written as it was read
@@ -138,29 +148,17 @@ module _ (v : Option Verb) (bs : List ℕ) (h : Bytes bs) (e : verb_of (get_or b
   two_bytes : (size : ℕ) → within (length bs) (cond (leb (get_or bs 1 0) 31) (Some 2) None) ≡ Some size
       → Rewritten (directed (get_or bs 0 0) (get_or bs 1 0)) bs size
   two_bytes size some =
-      elim (cases_Bool (leb (get_or bs 1 0) 31)) [
-        | inl y ↦
-            let w = within_some 2 (length bs) size
-            (ap (within (length bs)) (sym (cond-true (leb (get_or bs 1 0) 31) (Some 2) None y)) ∙ some) in
-            let a = leb-true (get_or bs 1 0) 31 y in
-            rw w.0
-            (record {
-              formed = ap (λ w. fits w (directed (get_or bs 0 0) (get_or bs 1 0))) e ∙ formed ∙ y;
-              sized = record {
-                verb = few;
-                origin = omega arith;
-                serial = omega arith;
-                a = omega arith;
-                b = omega arith;
-              };
-              bytes = ap (λ w. entry_as w (directed (get_or bs 0 0) (get_or bs 1 0))) e ∙ written
-                  ∙ sym (part_two 0 bs (omega arith));
-              some = omega arith;
-              fits = w.1;
-            })
-        | inr z ↦ absurd (none_some
-            (ap (within (length bs)) (sym (cond-false (leb (get_or bs 1 0) 31) (Some 2) None z)) ∙ some))
-      ]
+      let p = directed_some (get_or bs 1 0) (length bs) size some in
+      let a = leb-true (get_or bs 1 0) 31 p.0 in
+      rw p.1
+      (record {
+        formed = ap (λ w. fits w (directed (get_or bs 0 0) (get_or bs 1 0))) e ∙ formed ∙ p.0;
+        sized = record { verb = few; origin = omega arith; serial = omega arith; a = omega arith; b = omega arith };
+        bytes = ap (λ w. entry_as w (directed (get_or bs 0 0) (get_or bs 1 0))) e ∙ written
+            ∙ sym (part_two 0 bs (omega arith));
+        some = omega arith;
+        fits = p.2;
+      })
 
 rewritten_as : (v : Option Verb) (bs : List ℕ) (size : ℕ) → Bytes bs → verb_of (get_or bs 0 0) ≡ v
     → within (length bs) (size_as v (get_or bs 1 0)) ≡ Some size → Rewritten (command_as v bs) bs size
@@ -218,21 +216,11 @@ rewritten_as (Some Change) bs size h e some =
 pub rewritten : (bs : List ℕ) (size : ℕ) → Bytes bs → size_of bs ≡ Some size → Rewritten (command_of bs) bs size
 rewritten bs size h some = rewritten_as (verb_of (get_or bs 0 0)) bs size h refl some
 
-directed_part : (a left size : ℕ) → within left (cond (leb a 31) (Some 2) None) ≡ Some size
-    → (1 ≤ size) × (size ≤ left)
-directed_part a left size h =
-    elim (cases_Bool (leb a 31)) [
-      | inl y ↦
-          let w = within_some 2 left size (ap (within left) (sym (cond-true (leb a 31) (Some 2) None y)) ∙ h) in
-          (omega arith, omega arith)
-      | inr z ↦ absurd (none_some (ap (within left) (sym (cond-false (leb a 31) (Some 2) None z)) ∙ h))
-    ]
-
 -- an entry has at least one byte, and lies within those that are left
 pub sized_part : (v : Option Verb) (a left size : ℕ) → within left (size_as v a) ≡ Some size
     → (1 ≤ size) × (size ≤ left)
 sized_part None a left size h = absurd (none_some h)
 sized_part (Some Noop) a left size h = let w = within_some 1 left size h in (omega arith, omega arith)
-sized_part (Some Add) a left size h = directed_part a left size h
-sized_part (Some Remove) a left size h = directed_part a left size h
+sized_part (Some Add) a left size h = let p = directed_some a left size h in (omega arith, omega arith)
+sized_part (Some Remove) a left size h = let p = directed_some a left size h in (omega arith, omega arith)
 sized_part (Some Change) a left size h = let w = within_some 11 left size h in (omega arith, omega arith)

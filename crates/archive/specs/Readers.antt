@@ -6,16 +6,22 @@ use Rattle.archive.specs.declared.entries.Entries.{Entries}
 use Rattle.archive.specs.declared.reading.Reader.{Reader}
 use Rattle.archive.specs.declared.reading.Broken.{Broken}
 use Rattle.archive.specs.Layout.{Archive}
-use Rattle.archive.specs.Reading.{members_of, scanned, fault, rest, first_entry}
+use Rattle.archive.specs.Reading.{members_of, scanned, fault, decoded, rest, first_entry, first_command}
 
 -- an entry as its offset and its bytes
 abbrev pub shown : Option Entry → Option (ℕ × List ℕ)
 shown None = None
 shown (Some e) = Some (e.offset, e.bytes.now)
 
--- asking for the next entry gives the first of those that are left, and leaves what follows it
+-- the command that an entry tells
+abbrev pub told : Option Entry → Option Command
+told None = None
+told (Some e) = decoded e.bytes.now
+
+-- asking for the next entry gives the first of those that are left, whose command it tells, and leaves what follows it
 pub record Gives (s : Entries) (r : Option Entry) (t : Entries) : Type 0 where
   pub answer : shown r ≡ first_entry s.end s.rest.now
+  pub command : told r ≡ first_command s.rest.now
   pub after : t.rest.now ≡ rest s.rest.now
   pub same : t.end ≡ s.end
 

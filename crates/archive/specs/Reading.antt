@@ -1,5 +1,5 @@
 -- What a reader finds in a file of any bytes.
-use Rattle.std.specs.Prelude.{ℕ, zero, suc, ◌+◌, ◌-◌, Bool, cond, ◌&&◌, List, [], ◌∷◌, length, take, drop, Some, None, Ok, Err, Option, Result, ◌==◌, nat_le, nat_lt, slice_index, slice_index_or}
+use Rattle.std.specs.Prelude.{ℕ, zero, suc, ◌+◌, ◌-◌, Bool, cond, ◌&&◌, List, [], ◌∷◌, length, take, drop, Some, None, Ok, Err, Option, Result, ◌==◌, nat_le, nat_lt, slice_index, slice_index_or, option_map}
 use Rattle.std.specs.List.{starts_with}
 use Rattle.octets.specs.Areas.{part}
 use Rattle.octets.specs.Numbers.{num}
@@ -55,6 +55,10 @@ command_as (Some Change) bs =
 -- the command that these bytes begin with
 abbrev pub command_of : List ℕ → Command
 command_of bs = command_as (verb_of (slice_index bs 0)) bs
+
+-- the command of the first entry, if these bytes begin with one
+abbrev pub first_command : List ℕ → Option Command
+first_command bs = option_map (λ s. command_of bs) (size_of bs)
 
 -- the command of bytes that begin with an entry of this size, if they are that entry and no more
 abbrev pub decoded_as : Option ℕ → List ℕ → Option Command
