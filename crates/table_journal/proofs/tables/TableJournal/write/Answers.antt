@@ -2,7 +2,7 @@ use Rattle.std.proofs.Common.{refl, arith}
 use Rattle.std.proofs.lemmas.Grind.{common_steps}
 use Rattle.journal.specs.Meaning.{after}
 use Rattle.table_journal.specs.Tables.{table_meaning}
-use Rattle.table_journal.proofs.Writes.{settle_fits, settle_after, writes_taken, writes_untaken}
+use Rattle.table_journal.proofs.Writes.{settle_fits, writes_taken, writes_untaken}
 use Rattle.table_journal.proofs.tables.TableJournal.write.Goals as goal
 
 pub push_reserved-requires : goal.push_reserved-requires
@@ -38,11 +38,10 @@ returns-in-Put c =
     writes_taken c.args.self.now _ _ _ _ c.takes-taken.ensures c.if-taken.true c.in-Put.is refl refl
 
 pub returns-in-Settle : goal.returns-in-Settle
+unfolding after
 returns-in-Settle c =
     writes_taken c.args.self.now _ _ _ _ c.takes-taken.ensures c.if-taken.true c.in-Settle.is
-    (settle_after c.in-Settle.command (table_meaning c.args.self.now) _ _ c.push_reserved.ensures.items
-    (omega arith))
-    refl
+    (grind (arith, common_steps)) refl
 
 pub returns-else-taken : goal.returns-else-taken
 returns-else-taken c = writes_untaken c.args.self.now _ _ c.takes-taken.ensures c.if-taken.false
