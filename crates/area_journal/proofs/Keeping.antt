@@ -4,26 +4,26 @@ use Rattle.std.specs.Vec.{with_items}
 use Rattle.std.specs.declared.alloc.Global.{Global}
 use Rattle.std.proofs.lemmas.List.{with_items_is}
 use Rattle.journal.specs.declared.writes.Write.{Write}
-use Rattle.journal.specs.Meaning.{Meaning, wrote}
+use Rattle.journal.specs.Meaning.{Meaning, taken, wrote}
 use Rattle.area_journal.specs.declared.areas.AreaJournal.{AreaJournal}
 use Rattle.area_journal.specs.declared.faults.OpenFault.{OpenFault}
 use Rattle.area_journal.specs.Journals.{Behind, Opens, Again}
 use Rattle.area_journal.specs.Opening.{is_sound, fault}
-use Rattle.area_journal.specs.Checks.{some_none}
+use Rattle.area_journal.proofs.Checks.{some_none}
 use Rattle.area_journal.specs.Reading.{meaning_of}
-use Rattle.area_journal.specs.Writing.{Does}
+use Rattle.area_journal.specs.Writing.{written, NumbersFit, Does}
+use Rattle.area_journal.proofs.Doing.{did}
 use Rattle.area_journal.proofs.Histories.{behind_more}
 
-module _ (w : Write) (v : Vec ℕ Global) (area exit : List ℕ) (r : Bool) (e : area ≡ vec_items v)
-    (l : length exit ≡ v.len)
-    (d : Does w area exit r) where
-  pub sound_kept : is_sound (vec_items (with_items v exit)) ≡ true
-  sound_kept = ap is_sound (with_items_is v exit l) ∙ d.sound
-
-  pub does_kept : Does w (vec_items v) (vec_items (with_items v exit)) r
-  does_kept =
-      subst (λ (xs : List ℕ). Does w xs (vec_items (with_items v exit)) r) e
-      (subst (λ (xs : List ℕ). Does w area xs r) (sym (with_items_is v exit l)) d)
+-- a write that is taken, made in the bytes of a vector
+pub did_in : (w : Write) (v : Vec ℕ Global) (area exit : List ℕ) → area ≡ vec_items v → length exit ≡ v.len
+    → is_sound (vec_items v) ≡ true
+    → NumbersFit w
+    → true ≡ taken w (meaning_of (vec_items v))
+    → exit ≡ written w area
+    → Does w (vec_items v) (vec_items (with_items v exit)) true
+did_in w v area exit e l sound f t x =
+    did w (vec_items v) (vec_items (with_items v exit)) sound f t (with_items_is v exit l ∙ x ∙ ap (written w) e)
 
 -- what lies behind a journal after a write
 pub behind_does : (w : Write) (area exit : List ℕ) (r : Bool) → Does w area exit r → (ws : List Write)

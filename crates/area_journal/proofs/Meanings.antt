@@ -1,20 +1,19 @@
 -- The meaning of an area, part by part.
-use Rattle.std.proofs.Common.{◌≡◌, ℕ, ◌+◌, ◌-◌, ◌/◌, ◌<◌, min, true, false, ◌&&◌, eqb, ltb, leb, List, [], ◌∷◌, ◌++◌, map, length, get_or, set, sym, refl, ap, ◌∙◌, ap₂, inl, inr, arith}
+use Rattle.std.proofs.Common.{◌≡◌, ℕ, ◌+◌, ◌-◌, ◌/◌, ◌<◌, min, true, false, List, [], ◌∷◌, ◌++◌, map, length, get_or, set, sym, ap, ◌∙◌, ap₂, inl, inr, arith}
 use Rattle.std.specs.List.{range_with_len}
 use Rattle.std.proofs.lemmas.List.FromFn.{length-map-range_with_len, get_or-map-range_with_len, map-range_with_len_more, fill_by_all}
 use Rattle.std.proofs.lemmas.List.{length-set, get_or-set_same, get_or-set_other}
-use Rattle.std.proofs.lemmas.Bool.{cases_eq, cond-true, cond-false}
+use Rattle.std.proofs.lemmas.Bool.{cases_eq, cond-true, cond-false, and_parts, ltb-true}
 use Rattle.command.specs.declared.Command.{Command}
 use Rattle.command.specs.Commands.{well_formed}
 use Rattle.journal.specs.declared.writes.Write.{Write}
-use Rattle.journal.specs.declared.writes.Write.TheVariants.{Promise, Put, Settle}
+use Rattle.journal.specs.declared.writes.Write.TheVariants.{Settle}
 use Rattle.journal.specs.Meaning.{taken, after, step, settled_count}
-use Rattle.journal.specs.Windows.{in_window}
 use Rattle.area_journal.specs.Layout.{record_bytes, records_at}
-use Rattle.area_journal.specs.Reading.{capacity_of, promised_of, count_of, command_in, meaning_of}
+use Rattle.area_journal.specs.Reading.{capacity_of, count_of, command_in, meaning_of}
 use Rattle.area_journal.specs.Opening.{is_sound}
-use Rattle.area_journal.specs.Writing.{takes_put, takes_settle, written, Does}
-use Rattle.area_journal.specs.Checks.{Sound, sound_from}
+use Rattle.area_journal.specs.Writing.{written, Does}
+use Rattle.area_journal.proofs.Checks.{Sound, sound_from}
 
 -- lists that are made by index
 pub same_counted : {X : Type 0} (f g : ℕ → X) (k : ℕ) → ((i : ℕ) → i < k → f i ≡ g i)
@@ -48,21 +47,14 @@ pub count_is : (area : List ℕ) → settled_count (meaning_of area) ≡ count_o
 unfolding meaning_of
 count_is area = length-map-range_with_len (command_in area) 0 (count_of area)
 
-pub taken_put : (area : List ℕ) (n b : ℕ) (c : Command) → taken (Put n b c) (meaning_of area) ≡ takes_put area n b c
+-- a settle is taken only where a slot is left
+pub less_settle : (area : List ℕ) (c : Command) → taken (Settle c) (meaning_of area) ≡ true
+    → count_of area < capacity_of area
 unfolding taken meaning_of
-taken_put area n b c =
-    ap (λ (p : ℕ).
-    eqb b (promised_of area) && leb 1 b && in_window p n && leb n (capacity_of area) && well_formed c)
-    (length-map-range_with_len (command_in area) 0 (count_of area))
-
-pub taken_settle : (area : List ℕ) (c : Command) → taken (Settle c) (meaning_of area) ≡ takes_settle area c
-unfolding taken meaning_of
-taken_settle area c =
-    ap (λ (p : ℕ). ltb p (capacity_of area) && well_formed c) (length-map-range_with_len (command_in area) 0 (count_of area))
-
-pub taken_promise : (area : List ℕ) (b : ℕ) → taken (Promise b) (meaning_of area) ≡ leb (promised_of area) b
-unfolding taken meaning_of
-taken_promise area b = refl
+less_settle area c t =
+    let count = count_is area in
+    let less = ltb-true _ (capacity_of area) (and_parts _ (well_formed c) t).0 in
+    omega arith
 
 -- a write that is taken, and one that is not
 pub does : (w : Write) (area exit : List ℕ) → taken w (meaning_of area) ≡ true → exit ≡ written w area → Sound exit

@@ -9,15 +9,29 @@ ghost use Rattle.std.specs.Prelude.{◌≡◌, ℕ, None, Result, Vec};
 ghost use Rattle.area_journal.specs.declared.areas.AreaJournal.{AreaJournal};
 ghost use Rattle.area_journal.specs.declared.faults.OpenFault.{OpenFault};
 ghost use Rattle.std.specs.declared.alloc.Global.{Global};
-ghost use Rattle.area_journal.specs.Questions;
+ghost use Rattle.area_journal.specs.Within.{within_of};
 
-use crate::asking::{open_in, settled_in};
-use crate::checking::fault_in;
-use crate::layout::{capacity_in, count_in, promised_in};
-use crate::writing::write_in;
+use crate::checking::{check, in_window};
+use crate::layout::{SPAN, command_of, entry_of};
+use crate::parts::Parts;
+use crate::writing::make;
 use crate::{AreaJournal, OpenFault};
 use command::Command;
 use journal::{Entry, Journal, Write};
+
+// What stands in a slot where nothing does.
+const NOOP: Command = Command {
+    verb: 0,
+    origin: 0,
+    serial: 0,
+    a: 0,
+    b: 0,
+};
+
+const NO_ENTRY: Entry = Entry {
+    ballot: 0,
+    command: NOOP,
+};
 
 impl AreaJournal {
     /// Takes an area with any content as a journal, or hands it back with the first fault: refusal 12 where it has no
@@ -26,9 +40,9 @@ impl AreaJournal {
         ensures opens { Opens area.items result }
         ensures exact { Exact area.items }
     {
-        match fault_in(&area) {
-            Some(fault) => Err((area, fault)),
-            None => Ok(AreaJournal { area }),
+        match check(&area) {
+            Ok(()) => Ok(AreaJournal { area }),
+            Err(fault) => Err((area, fault)),
         }
     }
 
@@ -43,10 +57,15 @@ impl AreaJournal {
     pub fn write(&mut self, write: Write) -> bool
         ensures { Does write (bytes_of self.old) (bytes_of self.new) result }
     {
-        write_in(&mut self.area, write)
+        let taken = self.takes(&write);
+        if taken {
+            make(&mut self.area, write);
+        }
+        taken
     }
 
     /// Gives the bytes back: opened again they are this journal.
+    #[tactic(auto, using(crate::proofs::Checks::sound_none, crate::proofs::Keeping::opened_again))]
     pub fn release(self) -> Vec<u8>
         ensures bytes { result.items ≡ bytes_of self }
         ensures sound { fault result.items ≡ None }
@@ -56,6 +75,13 @@ impl AreaJournal {
         let AreaJournal { area } = self;
         area
     }
+
+    // The bytes, read part by part.
+    fn parts(&self) -> Parts<'_>
+        ensures { result.area.now ≡ bytes_of self.now }
+    {
+        Parts { area: &self.area }
+    }
 }
 
 impl Journal for AreaJournal {
@@ -63,32 +89,48 @@ impl Journal for AreaJournal {
 
     ghost behind = { λ j ws. Behind (meaning_of (bytes_of j)) ws };
 
-    ghost within = { λ j. Questions.within (bytes_of j) j.sound };
+    ghost within = { λ j. within_of (bytes_of j) j.long j.held };
 
+    #[tactic(auto, unfolding(crate::specs::Reading::meaning_of))]
     fn capacity(&self) -> u32 {
-        capacity_in(&self.area)
+        self.parts().capacity()
     }
 
+    #[tactic(auto, unfolding(crate::specs::Reading::meaning_of))]
     fn promised(&self) -> u32 {
-        promised_in(&self.area)
+        self.parts().promised()
     }
 
+    #[tactic(auto, using(crate::proofs::Meanings::count_is))]
     fn settled_count(&self) -> u32 {
-        count_in(&self.area)
+        self.parts().count()
     }
 
+    #[tactic(auto, using(crate::proofs::Questions::past_settled, crate::proofs::Questions::settled_here))]
     fn settled(&self, slot: u32) -> Command {
-        settled_in(&self.area, slot)
+        let parts = self.parts();
+        match slot.checked_sub(1) {
+            Some(i) if i < parts.count() => command_of(parts.record(i as usize)),
+            _ => NOOP,
+        }
     }
 
+    #[tactic(auto, using(crate::proofs::Questions::open_here, crate::proofs::Questions::open_else))]
     fn open(&self, slot: u32) -> Entry {
-        open_in(&self.area, slot)
+        let parts = self.parts();
+        if in_window(parts.count(), slot) {
+            entry_of(parts.place(slot as usize % SPAN))
+        } else {
+            NO_ENTRY
+        }
     }
 
+    #[tactic(auto, using(crate::proofs::Keeping::behind_does))]
     fn promise(&mut self, ballot: u32) -> bool {
         self.write(Write::Promise { ballot })
     }
 
+    #[tactic(auto, using(crate::proofs::Keeping::behind_does))]
     fn put(&mut self, slot: u32, ballot: u32, command: &Command) -> bool {
         self.write(Write::Put {
             slot,
@@ -97,6 +139,7 @@ impl Journal for AreaJournal {
         })
     }
 
+    #[tactic(auto, using(crate::proofs::Keeping::behind_does))]
     fn settle(&mut self, command: &Command) -> bool {
         self.write(Write::Settle { command: *command })
     }

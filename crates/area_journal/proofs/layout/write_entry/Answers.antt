@@ -2,7 +2,7 @@ use Rattle.std.proofs.Common.{◌++◌, arith}
 use Rattle.octets.specs.Numbers.{le}
 use Rattle.area_journal.specs.Layout.{command_bytes}
 use Rattle.octets.proofs.Parts.{then_over}
-use Rattle.area_journal.proofs.writing.write_entry.Goals as goal
+use Rattle.area_journal.proofs.layout.write_entry.Goals as goal
 
 pub returns : goal.returns
 returns c =
