@@ -9,7 +9,10 @@ use Rattle.command.specs.Commands.{well_formed}
 use Rattle.journal.specs.declared.writes.Write.{Write}
 use Rattle.journal.specs.declared.writes.Write.TheVariants.{Settle}
 use Rattle.journal.specs.Meaning.{taken, after, step, settled_count}
-use Rattle.area_journal.specs.Layout.{record_bytes, records_at}
+use Rattle.octets.specs.Areas.{over}
+use Rattle.octets.specs.Numbers.{le}
+use Rattle.journal.specs.Windows.{place_of}
+use Rattle.area_journal.specs.Layout.{record_bytes, records_at, record_at, place_at, count_at, command_bytes, blank_bytes}
 use Rattle.area_journal.specs.Reading.{capacity_of, count_of, command_in, meaning_of}
 use Rattle.area_journal.specs.Opening.{is_sound}
 use Rattle.area_journal.specs.Writing.{written, Does}
@@ -55,6 +58,19 @@ less_settle area c t =
     let count = count_is area in
     let less = ltb-true _ (capacity_of area) (and_parts _ (well_formed c) t).0 in
     omega arith
+
+-- the three parts of a settle, written one after another
+pub written_settle : (w : Write) (area once twice exit : List ℕ) (p i k : ℕ) (d : Command) → w ≡ Settle d
+    → p ≡ count_of area
+    → i ≡ record_at p
+    → k ≡ place_at (place_of (p + 1))
+    → once ≡ over area i (command_bytes d)
+    → twice ≡ over once count_at (le 4 (p + 1))
+    → exit ≡ over twice k blank_bytes
+    → exit ≡ written w area
+unfolding written
+written_settle w area once twice exit p i k d is count at place e f g =
+    simp (is, g, f, e, place, at, count)
 
 -- a write that is taken, and one that is not
 pub does : (w : Write) (area exit : List ℕ) → taken w (meaning_of area) ≡ true → exit ≡ written w area → Sound exit

@@ -19,18 +19,10 @@ use crate::{AreaJournal, OpenFault};
 use command::Command;
 use journal::{Entry, Journal, Write};
 
-// What stands in a slot where nothing does.
-const NOOP: Command = Command {
-    verb: 0,
-    origin: 0,
-    serial: 0,
-    a: 0,
-    b: 0,
-};
-
-const NO_ENTRY: Entry = Entry {
+// What stands in a slot in which nothing was put.
+const BLANK: Entry = Entry {
     ballot: 0,
-    command: NOOP,
+    command: Command::NOOP,
 };
 
 impl AreaJournal {
@@ -111,7 +103,7 @@ impl Journal for AreaJournal {
         let parts = self.parts();
         match slot.checked_sub(1) {
             Some(i) if i < parts.count() => command_of(parts.record(i as usize)),
-            _ => NOOP,
+            _ => Command::NOOP,
         }
     }
 
@@ -121,7 +113,7 @@ impl Journal for AreaJournal {
         if in_window(parts.count(), slot) {
             entry_of(parts.place(slot as usize % SPAN))
         } else {
-            NO_ENTRY
+            BLANK
         }
     }
 

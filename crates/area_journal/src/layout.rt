@@ -6,9 +6,9 @@ ghost use Rattle.octets.specs.Areas.{part, over};
 ghost use Rattle.area_journal.specs.Layout.{record_bytes, place_at, record_at, command_of, slot_of, entry_of, command_bytes, entry_bytes};
 ghost use Rattle.area_journal.specs.Reading.{shortest, count_of};
 
-use command::{Command, SERIAL_BYTES, read_serial, write_serial};
+use command::{Command, SERIAL_BYTES, Serial};
 use journal::Entry;
-use octets::{read_u16, read_u32, write_bytes, write_u16, write_u32};
+use octets::{Number, write_bytes};
 
 // Where the promised ballot and the settled count stand.
 pub(crate) const PROMISED_AT: usize = 0;
@@ -61,7 +61,7 @@ pub(crate) fn count_in(area: &[u8]) -> u32
     requires { shortest ≤ length area.now }
     ensures { result ≡ count_of area.now }
 {
-    read_u32(area, COUNT_AT)
+    u32::read_le(area, COUNT_AT)
 }
 
 // The command that a record tells.
@@ -70,10 +70,10 @@ pub(crate) fn command_of(record: &Record) -> Command
 {
     Command {
         verb: record[0],
-        origin: read_u16(record, 2),
-        serial: read_serial(record, 4),
-        a: read_u16(record, 4 + SERIAL_BYTES),
-        b: read_u16(record, 6 + SERIAL_BYTES),
+        origin: u16::read_le(record, 2),
+        serial: Serial::read_le(record, 4),
+        a: u16::read_le(record, 4 + SERIAL_BYTES),
+        b: u16::read_le(record, 6 + SERIAL_BYTES),
     }
 }
 
@@ -88,7 +88,7 @@ pub(crate) fn record_of(place: &Place) -> &Record
 pub(crate) fn slot_of(place: &Place) -> u32
     ensures { result ≡ slot_of place.now }
 {
-    read_u32(place, 0)
+    u32::read_le(place, 0)
 }
 
 // The entry that a place tells.
@@ -96,7 +96,7 @@ pub(crate) fn entry_of(place: &Place) -> Entry
     ensures { result ≡ entry_of place.now }
 {
     Entry {
-        ballot: read_u32(place, 4),
+        ballot: u32::read_le(place, 4),
         command: command_of(record_of(place)),
     }
 }
@@ -107,8 +107,8 @@ pub(crate) fn write_entry(area: &mut [u8], at: usize, slot: u32, ballot: u32, co
     ensures { area.new
         ≡ over area.old at (entry_bytes slot ballot command.now) }
 {
-    write_u32(area, at, slot);
-    write_u32(area, at + 4, ballot);
+    slot.write_le(area, at);
+    ballot.write_le(area, at + 4);
     write_command(area, at + 8, command);
 }
 
@@ -118,8 +118,8 @@ pub(crate) fn write_command(area: &mut [u8], at: usize, command: &Command)
     ensures { area.new ≡ over area.old at (command_bytes command.now) }
 {
     write_bytes(area, at, &[command.verb, 0]);
-    write_u16(area, at + 2, command.origin);
-    write_serial(area, at + 4, command.serial);
-    write_u16(area, at + 4 + SERIAL_BYTES, command.a);
-    write_u16(area, at + 6 + SERIAL_BYTES, command.b);
+    command.origin.write_le(area, at + 2);
+    command.serial.write_le(area, at + 4);
+    command.a.write_le(area, at + 4 + SERIAL_BYTES);
+    command.b.write_le(area, at + 6 + SERIAL_BYTES);
 }

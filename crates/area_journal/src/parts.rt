@@ -10,7 +10,7 @@ use crate::layout::{
     count_in, place_at, record_at,
 };
 use journal::MOST_SLOTS;
-use octets::read_u32;
+use octets::Number;
 
 // The area, read part by part.
 #[derive(Clone, Copy)]
@@ -46,7 +46,7 @@ impl<'a> Parts<'a> {
     pub(crate) fn promised(&self) -> u32
         ensures { result ≡ promised_of self.now.area.now }
     {
-        read_u32(self.area, PROMISED_AT)
+        u32::read_le(self.area, PROMISED_AT)
     }
 
     // The settled count.

@@ -12,7 +12,7 @@ use crate::layout::{
     BLANK, COUNT_AT, PROMISED_AT, SPAN, count_in, place_at, record_at, write_command, write_entry,
 };
 use journal::{Journal, Write};
-use octets::{write_bytes, write_u32};
+use octets::{Number, write_bytes};
 
 impl AreaJournal {
     // Whether a write is taken.
@@ -49,7 +49,7 @@ pub(crate) fn make(area: &mut [u8], write: Write)
     ensures fits { NumbersFit write }
 {
     match write {
-        Write::Promise { ballot } => write_u32(area, PROMISED_AT, ballot),
+        Write::Promise { ballot } => ballot.write_le(area, PROMISED_AT),
         Write::Put {
             slot,
             ballot,
@@ -62,7 +62,7 @@ pub(crate) fn make(area: &mut [u8], write: Write)
             let count = count_in(area);
             let place = place_at((count as usize + 1) % SPAN);
             write_command(area, record_at(count as usize), &command);
-            write_u32(area, COUNT_AT, count + 1);
+            (count + 1).write_le(area, COUNT_AT);
             write_bytes(area, place, &BLANK);
         }
     }
