@@ -15,12 +15,11 @@ pub(crate) fn of<J: Journal>(heap: Global, journal: &J) -> Result<String, Fault>
     writeln!(text, "promised ballot {promised} of director {owner}")?;
     writeln!(text, "settled {settled}")?;
     writeln!(text, "open, newest slot first:")?;
-    for back in 0..8u32 {
-        write_open(&mut text, journal, settled.saturating_add(8 - back))?;
+    for ahead in (1..=8).rev() {
+        write_open(&mut text, journal, settled + ahead)?;
     }
     writeln!(text, "settled, newest slot first:")?;
-    for back in 0..settled {
-        let slot = settled - back;
+    for slot in (1..=settled).rev() {
         write!(text, "  slot {slot}: ")?;
         write_entry(&mut text, &journal.settled(slot))?;
     }
