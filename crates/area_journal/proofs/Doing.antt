@@ -1,5 +1,5 @@
 -- A write that is taken does what it must.
-use Rattle.std.proofs.Common.{◌≡◌, ℕ, true, List, sym, ap, ◌∙◌, subst}
+use Rattle.std.proofs.Common.{◌≡◌, ℕ, Bool, true, List, sym, ap, ◌∙◌, subst}
 use Rattle.journal.specs.declared.writes.Write.{Write}
 use Rattle.journal.specs.declared.writes.Write.TheVariants.{Promise, Put, Settle}
 use Rattle.journal.specs.Meaning.{taken, after}
@@ -18,9 +18,11 @@ left_by (Promise b) area s f t = left_promise area b s f t
 left_by (Put n b c) area s f t = left_put area n b c s f.0 f.1 f.2 t
 left_by (Settle c) area s f t = left_settle area c s f t
 
-pub did : (w : Write) (area exit : List ℕ) → is_sound area ≡ true → NumbersFit w → true ≡ taken w (meaning_of area)
+pub did : (w : Write) (area exit : List ℕ) (r : Bool) → is_sound area ≡ true → NumbersFit w
+    → r ≡ taken w (meaning_of area)
+    → r ≡ true
     → exit ≡ written w area
-    → Does w area exit true
-did w area exit sound f t e =
-    let left = left_by w area (sound_parts area sound) f (sym t) in
-    does w area exit (sym t) e (subst Sound (sym e) left.sound) (ap meaning_of e ∙ left.means)
+    → Does w area exit r
+did w area exit r sound f t y e =
+    let left = left_by w area (sound_parts area sound) f (sym t ∙ y) in
+    does w area exit r t y e (subst Sound (sym e) left.sound) (ap meaning_of e ∙ left.means)

@@ -1,5 +1,5 @@
 -- The meaning of an area, part by part.
-use Rattle.std.proofs.Common.{◌≡◌, ℕ, ◌+◌, ◌-◌, ◌/◌, ◌<◌, min, true, false, List, [], ◌∷◌, ◌++◌, map, length, get_or, set, sym, ap, ◌∙◌, ap₂, inl, inr, arith}
+use Rattle.std.proofs.Common.{◌≡◌, ℕ, ◌+◌, ◌-◌, ◌/◌, ◌<◌, min, Bool, true, false, List, [], ◌∷◌, ◌++◌, map, length, get_or, set, sym, ap, ◌∙◌, ap₂, inl, inr, arith}
 use Rattle.std.specs.List.{range_with_len}
 use Rattle.std.proofs.lemmas.List.FromFn.{length-map-range_with_len, get_or-map-range_with_len, map-range_with_len_more, fill_by_all}
 use Rattle.std.proofs.lemmas.List.{length-set, get_or-set_same, get_or-set_other}
@@ -73,24 +73,30 @@ written_settle w area once twice exit p i k d is count at place e f g =
     simp (is, g, f, e, place, at, count)
 
 -- a write that is taken, and one that is not
-pub does : (w : Write) (area exit : List ℕ) → taken w (meaning_of area) ≡ true → exit ≡ written w area → Sound exit
-    → meaning_of exit ≡ after w (meaning_of area) → Does w area exit true
+pub does : (w : Write) (area exit : List ℕ) (r : Bool) → r ≡ taken w (meaning_of area) → r ≡ true
+    → exit ≡ written w area
+    → Sound exit
+    → meaning_of exit ≡ after w (meaning_of area)
+    → Does w area exit r
 unfolding step
-does w area exit t e s m =
+does w area exit r t y e s m =
+    let h = sym t ∙ y in
     record {
-      answer = sym t;
-      bytes = e ∙ sym (cond-true (taken w (meaning_of area)) (written w area) area t);
-      after = m ∙ sym (cond-true (taken w (meaning_of area)) (after w (meaning_of area)) (meaning_of area) t);
+      answer = t;
+      bytes = e ∙ sym (cond-true (taken w (meaning_of area)) (written w area) area h);
+      after = m ∙ sym (cond-true (taken w (meaning_of area)) (after w (meaning_of area)) (meaning_of area) h);
       sound = sound_from exit s;
     }
 
-pub does_not : (w : Write) (area : List ℕ) → taken w (meaning_of area) ≡ false → is_sound area ≡ true
-    → Does w area area false
+pub does_not : (w : Write) (area : List ℕ) (r : Bool) → r ≡ taken w (meaning_of area) → r ≡ false
+    → is_sound area ≡ true
+    → Does w area area r
 unfolding step
-does_not w area t s =
+does_not w area r t n s =
+    let h = sym t ∙ n in
     record {
-      answer = sym t;
-      bytes = sym (cond-false (taken w (meaning_of area)) (written w area) area t);
-      after = sym (cond-false (taken w (meaning_of area)) (after w (meaning_of area)) (meaning_of area) t);
+      answer = t;
+      bytes = sym (cond-false (taken w (meaning_of area)) (written w area) area h);
+      after = sym (cond-false (taken w (meaning_of area)) (after w (meaning_of area)) (meaning_of area) h);
       sound = s;
     }

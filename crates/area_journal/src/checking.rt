@@ -8,9 +8,10 @@ ghost use Rattle.journal.specs.Windows.{in_window};
 
 use crate::OpenFault;
 use crate::layout::{
-    BLANK, Place, Record, SPAN, command_of, entry_of, place_at, record_at, record_of, slot_of,
+    BLANK, Place, Record, command_of, entry_of, place_at, record_at, record_of, slot_of,
 };
 use crate::parts::Parts;
+use journal::SPAN;
 
 // What opening finds: the first fault, if there is one.
 pub(crate) fn check(area: &[u8]) -> Result<(), OpenFault>

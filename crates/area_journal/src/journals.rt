@@ -1,10 +1,11 @@
 //! A journal in bytes: opened, asked, written and released.
 
 ghost use Rattle.area_journal.specs.Exactness.{Exact};
-ghost use Rattle.area_journal.specs.Journals.{Opens, Again, bytes_of, Behind};
+ghost use Rattle.area_journal.specs.Journals.{Opens, Again, bytes_of, tells, may_lie_behind};
 ghost use Rattle.area_journal.specs.Opening.{fault};
 ghost use Rattle.area_journal.specs.Reading.{meaning_of};
 ghost use Rattle.area_journal.specs.Writing.{Does};
+ghost use Rattle.journal.specs.Meaning.{Writes};
 ghost use Rattle.std.specs.Prelude.{◌≡◌, ℕ, None, Result, Vec};
 ghost use Rattle.area_journal.specs.declared.areas.AreaJournal.{AreaJournal};
 ghost use Rattle.area_journal.specs.declared.faults.OpenFault.{OpenFault};
@@ -12,18 +13,12 @@ ghost use Rattle.std.specs.declared.alloc.Global.{Global};
 ghost use Rattle.area_journal.specs.Within.{within_of};
 
 use crate::checking::{check, in_window};
-use crate::layout::{SPAN, command_of, entry_of};
+use crate::layout::{command_of, entry_of};
 use crate::parts::Parts;
 use crate::writing::make;
 use crate::{AreaJournal, OpenFault};
 use command::Command;
-use journal::{Entry, Journal, Write};
-
-// What stands in a slot in which nothing was put.
-const BLANK: Entry = Entry {
-    ballot: 0,
-    command: Command::NOOP,
-};
+use journal::{Entry, Journal, SPAN, Write};
 
 impl AreaJournal {
     /// Takes an area with any content as a journal, or hands it back with the first fault: refusal 12 where it has no
@@ -47,7 +42,8 @@ impl AreaJournal {
 
     /// Makes a write if it is taken, and answers whether it was. It alters the bytes of that write and no others.
     pub fn write(&mut self, write: Write) -> bool
-        ensures { Does write (bytes_of self.old) (bytes_of self.new) result }
+        ensures does { Does write (bytes_of self.old) (bytes_of self.new) result }
+        ensures writes { Writes tells may_lie_behind write self.old self.new result }
     {
         let taken = self.takes(&write);
         if taken {
@@ -77,9 +73,9 @@ impl AreaJournal {
 }
 
 impl Journal for AreaJournal {
-    ghost meaning = { λ j. meaning_of (bytes_of j) };
+    ghost meaning = { tells };
 
-    ghost behind = { λ j ws. Behind (meaning_of (bytes_of j)) ws };
+    ghost behind = { may_lie_behind };
 
     ghost within = { λ j. within_of (bytes_of j) j.long j.held };
 
@@ -113,16 +109,14 @@ impl Journal for AreaJournal {
         if in_window(parts.count(), slot) {
             entry_of(parts.place(slot as usize % SPAN))
         } else {
-            BLANK
+            Entry::BLANK
         }
     }
 
-    #[tactic(auto, using(crate::proofs::Keeping::behind_does))]
     fn promise(&mut self, ballot: u32) -> bool {
         self.write(Write::Promise { ballot })
     }
 
-    #[tactic(auto, using(crate::proofs::Keeping::behind_does))]
     fn put(&mut self, slot: u32, ballot: u32, command: &Command) -> bool {
         self.write(Write::Put {
             slot,
@@ -131,7 +125,6 @@ impl Journal for AreaJournal {
         })
     }
 
-    #[tactic(auto, using(crate::proofs::Keeping::behind_does))]
     fn settle(&mut self, command: &Command) -> bool {
         self.write(Write::Settle { command: *command })
     }

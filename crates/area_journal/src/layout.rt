@@ -7,7 +7,7 @@ ghost use Rattle.area_journal.specs.Layout.{record_bytes, place_at, record_at, c
 ghost use Rattle.area_journal.specs.Reading.{shortest, count_of};
 
 use command::{Command, SERIAL_BYTES, Serial};
-use journal::Entry;
+use journal::{Entry, SPAN};
 use octets::{Number, write_bytes};
 
 // Where the promised ballot and the settled count stand.
@@ -21,9 +21,7 @@ pub(crate) const RECORD_BYTES: usize = 8 + size_of::<Serial>();
 // How many bytes an open entry takes: slot, ballot, command.
 pub(crate) const PLACE_BYTES: usize = 8 + RECORD_BYTES;
 
-// How many places there are for open entries, and where they begin.
-pub(crate) const SPAN: usize = 8;
-
+// Where the places for open entries begin.
 const PLACES_AT: usize = 8;
 
 // Where the settled records begin.

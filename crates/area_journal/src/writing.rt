@@ -9,9 +9,9 @@ ghost use Rattle.journal.specs.Meaning.{taken};
 use crate::AreaJournal;
 use crate::checking::in_window;
 use crate::layout::{
-    BLANK, COUNT_AT, PROMISED_AT, SPAN, count_in, place_at, record_at, write_command, write_entry,
+    BLANK, COUNT_AT, PROMISED_AT, count_in, place_at, record_at, write_command, write_entry,
 };
-use journal::{Journal, Write};
+use journal::{Journal, SPAN, Write};
 use octets::{Number, write_bytes};
 
 impl AreaJournal {
