@@ -1,5 +1,5 @@
 -- What a put that is taken leaves.
-use Rattle.std.proofs.Common.{◌≡◌, ℕ, ◌+◌, ◌%◌, ◌^◌, ◌<◌, ◌≤◌, true, false, ◌&&◌, eqb, ltb, leb, List, map, length, sym, refl, ap, ◌∙◌, subst, inl, inr, arith}
+use Rattle.std.proofs.Common.{◌≡◌, ℕ, ◌+◌, ◌%◌, ◌^◌, ◌<◌, ◌≤◌, true, ◌&&◌, eqb, ltb, leb, List, map, length, sym, refl, ap, ◌∙◌, subst, inl, inr, arith}
 use Rattle.std.specs.List.{range_with_len}
 use Rattle.std.proofs.lemmas.Bool.{cases_eq, cases_lt, and_parts, eqb-true, leb-true, ltb-true}
 use Rattle.octets.specs.Areas.{part, over}
@@ -8,16 +8,16 @@ use Rattle.octets.proofs.Areas.{length_over}
 use Rattle.command.specs.declared.Command.{Command}
 use Rattle.command.specs.Commands.{well_formed, Sized}
 use Rattle.journal.specs.declared.writes.Write.TheVariants.{Put}
-use Rattle.journal.specs.Meaning.{after}
+use Rattle.journal.specs.Meaning.{taken, after, settled_count}
 use Rattle.area_journal.specs.Layout.{place_at, record_at, place_bytes, record_bytes, entry_bytes, command_of, entry_of}
 use Rattle.area_journal.specs.Reading.{capacity_of, promised_of, count_of, place_in, record_in, command_in, entry_in}
 use Rattle.area_journal.specs.Reading.{meaning_of}
-use Rattle.area_journal.specs.Opening.{place_is_good, is_sound}
-use Rattle.area_journal.specs.Writing.{written, takes_put, Does}
-use Rattle.area_journal.specs.Checks.{Sound, sound_parts}
+use Rattle.area_journal.specs.Opening.{place_is_good}
+use Rattle.area_journal.specs.Writing.{written}
+use Rattle.area_journal.proofs.Checks.{Sound}
 use Rattle.octets.proofs.Parts.{part_over, part_below, part_above}
 use Rattle.area_journal.proofs.Places.{Held, entry_read, entry_good}
-use Rattle.area_journal.proofs.Meanings.{same_counted, set_counted, capacity_same, taken_put, does, does_not}
+use Rattle.area_journal.proofs.Meanings.{same_counted, set_counted, capacity_same, count_is}
 use Rattle.area_journal.proofs.Writes.{Left, good_place, good_place_is, record_same}
 
 module _ (area : List ℕ) (s : Sound area) (n b : ℕ) (d : Command) (slot : n < 256 ^ 4) (ballot : b < 256 ^ 4)
@@ -104,40 +104,31 @@ module _ (area : List ℕ) (s : Sound area) (n b : ℕ) (d : Command) (slot : n 
       }
 
 -- what is known where a put is taken
-held : (area : List ℕ) (n b : ℕ) (d : Command) → takes_put area n b d ≡ true
+held : (area : List ℕ) (n b : ℕ) (d : Command) → taken (Put n b d) (meaning_of area) ≡ true
     → Held (capacity_of area) (promised_of area) (count_of area) (n % 8) n b (well_formed d)
+unfolding taken meaning_of
 held area n b d h =
-    let p = count_of area in
+    let p = settled_count (meaning_of area) in
+    let count = count_is area in
     let s = and_parts _ (well_formed d) h in
     let t = and_parts _ (leb n (capacity_of area)) s.0 in
     let u = and_parts _ (ltb p n && leb n (p + 8)) t.0 in
     let v = and_parts (eqb b (promised_of area)) (leb 1 b) u.0 in
     let w = and_parts (ltb p n) (leb n (p + 8)) u.1 in
     let same = eqb-true b (promised_of area) v.0 in
+    let above = ltb-true p n w.0 in
+    let window = leb-true n (p + 8) w.1 in
     record {
       place = refl;
-      above = ltb-true p n w.0;
-      window = leb-true n (p + 8) w.1;
+      above = omega arith;
+      window = omega arith;
       within = leb-true n (capacity_of area) t.1;
       some = leb-true 1 b v.1;
       most = omega arith;
       good = s.1;
     }
 
-pub did_put : (area exit : List ℕ) (n b i : ℕ) (d : Command) → is_sound area ≡ true → n < 256 ^ 4
-    → b < 256 ^ 4
-    → Sized d
-    → takes_put area n b d ≡ true
-    → i ≡ place_at (n % 8)
-    → exit ≡ over area i (entry_bytes n b d)
-    → Does (Put n b d) area exit true
-unfolding written
-did_put area exit n b i d sound slot ballot sized t at e =
-    let left = put area (sound_parts area sound) n b d slot ballot sized (held area n b d t) in
-    let same : exit ≡ written (Put n b d) area = e ∙ ap (λ (k : ℕ). over area k (entry_bytes n b d)) at in
-    does (Put n b d) area exit (taken_put area n b d ∙ t) same (subst Sound (sym same) left.sound)
-    (ap meaning_of same ∙ left.means)
-
-pub refused_put : (area : List ℕ) (n b : ℕ) (d : Command) → is_sound area ≡ true → false ≡ takes_put area n b d
-    → Does (Put n b d) area area false
-refused_put area n b d sound t = does_not (Put n b d) area (taken_put area n b d ∙ sym t) sound
+pub left_put : (area : List ℕ) (n b : ℕ) (d : Command) → Sound area → n < 256 ^ 4 → b < 256 ^ 4 → Sized d
+    → taken (Put n b d) (meaning_of area) ≡ true
+    → Left (written (Put n b d) area) (after (Put n b d) (meaning_of area))
+left_put area n b d sound slot ballot sized t = put area sound n b d slot ballot sized (held area n b d t)

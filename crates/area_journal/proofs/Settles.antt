@@ -1,5 +1,5 @@
 -- What a settle that is taken leaves.
-use Rattle.std.proofs.Common.{◌≡◌, ℕ, ◌+◌, ◌%◌, ◌^◌, ◌<◌, ◌≤◌, true, ltb, List, map, length, set, sym, refl, ap, ◌∙◌, subst, ap₂, inl, inr, arith}
+use Rattle.std.proofs.Common.{◌≡◌, ℕ, ◌+◌, ◌%◌, ◌^◌, ◌<◌, ◌≤◌, true, ltb, List, map, length, set, sym, refl, ap, ◌∙◌, inl, inr, arith}
 use Rattle.std.specs.List.{range_with_len}
 use Rattle.std.proofs.lemmas.List.FromFn.{length-map-range_with_len}
 use Rattle.std.proofs.lemmas.Bool.{cases_eq, cases_lt, and_parts, ltb-true}
@@ -10,18 +10,17 @@ use Rattle.octets.proofs.Numbers.{num_le}
 use Rattle.command.specs.declared.Command.{Command}
 use Rattle.command.specs.Commands.{well_formed, Sized}
 use Rattle.journal.specs.declared.writes.Write.TheVariants.{Settle}
-use Rattle.journal.specs.Meaning.{after, blank}
+use Rattle.journal.specs.Meaning.{taken, after, settled_count, blank}
 use Rattle.area_journal.specs.Layout.{place_at, record_at, place_bytes, record_bytes, command_bytes, blank_bytes}
 use Rattle.area_journal.specs.Layout.{command_of, entry_of}
 use Rattle.area_journal.specs.Reading.{capacity_of, promised_of, count_of, place_in, record_in, command_in, entry_in}
 use Rattle.area_journal.specs.Reading.{meaning_of}
-use Rattle.area_journal.specs.Opening.{place_is_good, record_is_good, is_sound}
-use Rattle.area_journal.specs.Writing.{written, settled_area, takes_settle, Does}
-use Rattle.area_journal.specs.Checks.{Sound, sound_parts}
+use Rattle.area_journal.specs.Opening.{place_is_good, record_is_good}
+use Rattle.area_journal.specs.Writing.{written, settled_area}
+use Rattle.area_journal.proofs.Checks.{Sound}
 use Rattle.octets.proofs.Parts.{part_over, part_below, part_above}
 use Rattle.area_journal.proofs.Places.{place_kept, blank_good, good_record_is, command_read}
-use Rattle.area_journal.proofs.Meanings.{set_counted, more_counted, capacity_same}
-use Rattle.area_journal.proofs.Meanings.{taken_settle, does}
+use Rattle.area_journal.proofs.Meanings.{set_counted, more_counted, capacity_same, count_is}
 use Rattle.area_journal.proofs.Writes.{Left, good_place, good_place_is, good_record, record_same}
 
 -- the three writes of a settle, at any count
@@ -174,23 +173,13 @@ module _ (area : List ℕ) (s : Sound area) (d : Command) (sized : Sized d) (for
             };
       }
 
-pub did_settle : (area once twice exit : List ℕ) (q i k : ℕ) (d : Command) → is_sound area ≡ true → Sized d
-    → takes_settle area d ≡ true
-    → q ≡ count_of area
-    → i ≡ record_at q
-    → k ≡ place_at ((q + 1) % 8)
-    → once ≡ over area i (command_bytes d)
-    → twice ≡ over once 4 (le 4 (q + 1))
-    → exit ≡ over twice k blank_bytes
-    → Does (Settle d) area exit true
-unfolding written
-did_settle area once twice exit q i k d sound sized t count at place e f g =
-    let h = and_parts (ltb (count_of area) (capacity_of area)) (well_formed d) t in
-    let left = settled area (sound_parts area sound) d sized h.1
-    (ltb-true (count_of area) (capacity_of area) h.0) in
-    let same : exit ≡ written (Settle d) area =
-    g ∙ ap₂ (λ (xs : List ℕ) (n : ℕ). over xs n blank_bytes)
-    (f ∙ ap (λ (xs : List ℕ). over xs 4 (le 4 (q + 1))) (e ∙ ap (λ (n : ℕ). over area n (command_bytes d)) at)) place
-    ∙ ap (λ (n : ℕ). settled_area area n d) count in
-    does (Settle d) area exit (taken_settle area d ∙ t) same (subst Sound (sym same) left.sound)
-    (ap meaning_of same ∙ left.means)
+pub left_settle : (area : List ℕ) (d : Command) → Sound area → Sized d
+    → taken (Settle d) (meaning_of area) ≡ true
+    → Left (written (Settle d) area) (after (Settle d) (meaning_of area))
+unfolding taken meaning_of
+left_settle area d sound sized t =
+    let p = settled_count (meaning_of area) in
+    let count = count_is area in
+    let h = and_parts (ltb p (capacity_of area)) (well_formed d) t in
+    let less = ltb-true p (capacity_of area) h.0 in
+    settled area sound d sized h.1 (omega arith)

@@ -28,3 +28,10 @@ Again m (Err e) = ⊥
 pub record Behind (present : Meaning) (ws : List Write) : Type 0 where
   pub start : Meaning
   pub leads : Leads start ws present
+
+-- what a journal of the code means, and which lists of writes may lie behind it
+abbrev pub tells : AreaJournal → Meaning
+tells j = meaning_of (bytes_of j)
+
+abbrev pub may_lie_behind : AreaJournal → List Write → Type 0
+may_lie_behind j ws = Behind (tells j) ws

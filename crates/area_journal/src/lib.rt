@@ -3,11 +3,11 @@
 #![tactic(auto)]
 
 mod areas;
-mod asking;
 mod checking;
 mod faults;
 mod journals;
 mod layout;
+mod parts;
 mod writing;
 
 pub use areas::AreaJournal;
@@ -37,6 +37,22 @@ mod tests {
             Some(OpenFault::Broken { offset: 4 })
         );
         assert_eq!(rt; fault_of(vec![in heap; 0; 180]?), None);
+        Ok(())
+    }
+
+    #[test]
+    fn a_fault_is_told_in_words(rt: HostRuntime) -> Result<(), Fail> {
+        let heap = rt.alloc();
+        let short = format!(in heap; "{}", OpenFault::NoRecord)?;
+        assert_eq!(rt;
+            short.as_str(),
+            "refused 12: the area has no space for a record"
+        );
+        let broken = format!(in heap; "{}", OpenFault::Broken { offset: 180 })?;
+        assert_eq!(rt;
+            broken.as_str(),
+            "refused 13 at 180: the part that begins here is broken"
+        );
         Ok(())
     }
 

@@ -5,21 +5,15 @@
 mod demo;
 mod text;
 
-use anyhow::anyhow;
-use area_journal::{AreaJournal, OpenFault};
-use journal::Journal;
-use std::alloc::{AllocError, Global};
+use area_journal::AreaJournal;
+use console::{fail, or_say, status};
 use std::process::ExitCode;
 use std::{env, fs};
 
 const USAGE: &str = "dump: usage: dump | dump FILE";
 
-// A refusal was said where it was found: an error only sets the status.
 fn main(rt: HostRuntime) -> ExitCode {
-    match run(&rt) {
-        Ok(()) => ExitCode::SUCCESS,
-        Err(_) => ExitCode::FAILURE,
-    }
+    status(run(&rt))
 }
 
 fn run(rt: &HostRuntime) -> anyhow::Result<()> {
@@ -29,58 +23,25 @@ fn run(rt: &HostRuntime) -> anyhow::Result<()> {
         return demo::run(rt);
     };
     if given.next().is_some() {
-        return fail(rt, USAGE);
+        return fail(rt, &USAGE);
     }
     dump(rt, file.as_str())
 }
 
 // Opens the area in a file and prints it.
 fn dump(rt: &HostRuntime, file: &str) -> anyhow::Result<()> {
-    let area = load(rt, file)?;
+    let area = or_say(rt, "dump", file, fs::read(rt, file))?;
     match AreaJournal::open(area) {
         Ok(journal) => print(rt, &journal),
-        Err((_, fault)) => {
-            let said = refusal(rt.alloc(), fault)?;
-            fail(rt, said.as_str())
-        }
+        Err((_, fault)) => fail(rt, &format_args!("dump: {fault}")),
     }
 }
 
 /// Prints a journal.
 pub(crate) fn print(rt: &HostRuntime, journal: &AreaJournal) -> anyhow::Result<()> {
     let Ok(text) = text::of(rt.alloc(), journal) else {
-        return fail(rt, "dump: no memory is left");
+        return fail(rt, &"dump: no memory is left");
     };
     rt.print(text.as_str())?;
     Ok(())
-}
-
-/// What to say of an area that does not open.
-pub(crate) fn refusal(heap: Global, fault: OpenFault) -> Result<String, AllocError> {
-    match fault {
-        OpenFault::NoRecord => String::from_str(
-            heap,
-            "dump: refused 12: the area has no space for a record",
-        ),
-        OpenFault::Broken { offset } => {
-            format!(in heap; "dump: refused 13 at {offset}: the part that begins here is broken")
-        }
-    }
-}
-
-/// Says on the error stream why the program ends, and ends it.
-pub(crate) fn fail(rt: &HostRuntime, said: &str) -> anyhow::Result<()> {
-    rt.eprintln(said)?;
-    Err(anyhow!("refused"))
-}
-
-// The bytes of a file; where it cannot be read that is said.
-fn load(rt: &HostRuntime, path: &str) -> anyhow::Result<Vec<u8>> {
-    match fs::read(rt, path) {
-        Ok(bytes) => Ok(bytes),
-        Err(e) => {
-            eprintln!(rt; "dump: {path}: {e}")?;
-            Err(anyhow!("no such file"))
-        }
-    }
 }

@@ -1,9 +1,9 @@
 -- The checks of opening, one after another.
-use Rattle.std.specs.Prelude.{◌≡◌, ℕ, zero, suc, ◌+◌, ◌-◌, ◌<◌, ◌≤◌, Bool, true, false, cond, ◌⊎◌, List, length, Some, None, Option, nat_le, nat_lt, refl}
+use Rattle.std.specs.Prelude.{◌≡◌, ℕ, zero, suc, ◌+◌, ◌<◌, ◌≤◌, Bool, true, false, not, cond, ◌⊎◌, List, length, Some, None, Option, nat_le, nat_lt, refl}
 use Rattle.std.proofs.Common.{sym, ◌∙◌, inl, inr}
 use Rattle.std.proofs.Math.Path.{ap}
 use native.Mathlib.Omega.{arith}
-use Rattle.std.proofs.lemmas.Bool.{cond-true, cond-false, lt-ltb, le-ltb, le-leb, lt-leb, cases_lt}
+use Rattle.std.proofs.lemmas.Bool.{not_from_true, cond-true, cond-false, lt-ltb, le-ltb, le-leb, lt-leb, cases_lt}
 use Rattle.area_journal.specs.declared.faults.OpenFault.{OpenFault}
 use Rattle.area_journal.specs.declared.faults.OpenFault.TheVariants.{NoRecord, Broken}
 use Rattle.area_journal.specs.Layout.{count_at, place_at, record_at}
@@ -13,33 +13,12 @@ use Rattle.area_journal.specs.Opening.{place_is_good, record_is_good, first_bad,
 pub some_none : {X : Type 0} {x : X} → ◌≡◌ {A = Option X} (Some x) None → ⊥
 some_none e = let z : ◌≡◌ {A = ℕ} 0 1 = cc in omega arith
 
--- going through the numbers from i on
-module _ (f : ℕ → Bool) (i n : ℕ) where
-  pub bad_here : i < n → f i ≡ false → first_bad f i (n - i) ≡ Some i
-  unfolding first_bad
-  bad_here l e =
-      let k : n - i ≡ suc (n - (i + 1)) = omega arith in
-      ap (first_bad f i) k ∙ cond-false (f i) _ (Some i) e
-
-  pub bad_later : i < n → f i ≡ true → first_bad f i (n - i) ≡ first_bad f (i + 1) (n - (i + 1))
-  unfolding first_bad
-  bad_later l e =
-      let k : n - i ≡ suc (n - (i + 1)) = omega arith in
-      ap (first_bad f i) k ∙ cond-true (f i) _ (Some i) e
-
-  pub bad_none : n ≤ i → first_bad f i (n - i) ≡ None
-  unfolding first_bad
-  bad_none l =
-      let k : n - i ≡ 0 = omega arith in
-      ap (first_bad f i) k
-
 -- none is bad exactly where all are good
 pub all_good : (f : ℕ → Bool) (k i : ℕ) → first_bad f i k ≡ None → (j : ℕ) → i ≤ j → j < i + k → f j ≡ true
-unfolding first_bad
 all_good f zero i e j l h = absurd (omega arith)
 all_good f (suc k) i e j l h = go (f i) refl e (λ e m. all_good f k (i + 1) e j (omega arith) (omega arith))
   where
-    go : (b : Bool) → f i ≡ b → cond b (first_bad f (i + 1) k) (Some i) ≡ None
+    go : (b : Bool) → f i ≡ b → cond (not b) (Some i) (first_bad f (i + 1) k) ≡ None
         → (first_bad f (i + 1) k ≡ None → i < j → f j ≡ true)
         → f j ≡ true
     go false q e r = absurd (some_none e)
@@ -47,10 +26,9 @@ all_good f (suc k) i e j l h = go (f i) refl e (λ e m. all_good f k (i + 1) e j
         elim (cases_lt i j) [ inl m ↦ r e m | inr m ↦ let s : j ≡ i = omega arith in ap f s ∙ q ]
 
 pub good_all : (f : ℕ → Bool) (k i : ℕ) → ((j : ℕ) → i ≤ j → j < i + k → f j ≡ true) → first_bad f i k ≡ None
-unfolding first_bad
 good_all f zero i h = refl
 good_all f (suc k) i h =
-    cond-true (f i) (first_bad f (i + 1) k) (Some i) (h i (omega arith) (omega arith))
+    cond-false (not (f i)) (Some i) (first_bad f (i + 1) k) (not_from_true (f i) (h i (omega arith) (omega arith)))
     ∙ good_all f k (i + 1) (λ j l m. h j (omega arith) (omega arith))
 
 module _ (area : List ℕ) where
