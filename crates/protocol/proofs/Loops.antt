@@ -1,5 +1,5 @@
 -- Eight turns are enough for each loop.
-use Rattle.std.proofs.Common.{◌≡◌, ℕ, zero, suc, ◌+◌, ◌*◌, ◌%◌, ◌<◌, ◌≤◌, Bool, true, false, cond, not, eqb, ltb, leb, List, [], ◌∷◌, ◌++◌, length, get_or, drop, set, Some, None, count_by, Option, sym, refl, ap, ◌∙◌, subst, inl, inr, arith, length-set}
+use Rattle.std.proofs.Common.{◌≡◌, ℕ, zero, suc, ◌+◌, ◌*◌, ◌%◌, ◌<◌, ◌≤◌, Bool, true, false, cond, not, eqb, ltb, leb, List, [], ◌∷◌, ◌++◌, length, get_or, drop, set, Some, None, count_by, Option, sym, refl, ap, ◌∙◌, subst, inl, inr, arith, length-set, is_some}
 use Rattle.std.specs.List.{ContainsAt as Has, AllByRecursion}
 use Rattle.std.proofs.ByRecursion.{All-drop, All-weaker, all_has_itself}
 use Rattle.std.proofs.lemmas.List.Sums.{count_by-le-length, sum_by-set}
@@ -20,7 +20,7 @@ use Rattle.protocol.specs.Desks.{State, Desk, Outcome, Step, left, both, go_on, 
 use Rattle.protocol.specs.Desks.{Role, following, standing, promised, itself, none, ack_of, forget, with_role, with_ack, send}
 use Rattle.protocol.specs.Rings.{chain_of, open_at, pass_on}
 use Rattle.protocol.specs.Settling.{settle, settle_open, backed, advance, told_settled, catch_up}
-use Rattle.protocol.specs.Lists.{head_of, is_there}
+use Rattle.protocol.specs.Lists.{head_of}
 use Rattle.protocol.specs.Calls.{is_unreported, command_for, fed, Proposal, proposal, propose, propose_any, propose_all}
 use Rattle.protocol.specs.Loops.{Sound, SoundRole, LoopsEnd}
 use Rattle.protocol.proofs.Votes.{Past, Voted, Lawful, promise, count, vote_bounds, open_vote, open_near, lawful_eight}
@@ -295,7 +295,7 @@ module _ (x : Past) (s : State) (lawful : Lawful x) (role : SoundRole (desk x s)
             (lawful_eight x lawful)),
       )
 
-proposed_any : (b : ℕ) (d : Desk) → LeadsOn b d → is_there (proposal d) ≡ true
+proposed_any : (b : ℕ) (d : Desk) → LeadsOn b d → is_some (proposal d) ≡ true
     → LeadsOn b (left d (propose_any (proposal d) d))
     × (count_by (other b) (left d (propose_any (proposal d) d)).journal.places < count_by (other b) d.journal.places)
 proposed_any b d q h = go (proposal d) refl h
@@ -303,7 +303,7 @@ proposed_any b d q h = go (proposal d) refl h
     at : Meaning → Desk
     at m = record { state = d.state; journal = m }
 
-    go : (o : Option Proposal) → proposal d ≡ o → is_there o ≡ true
+    go : (o : Option Proposal) → proposal d ≡ o → is_some o ≡ true
         → LeadsOn b (left d (propose_any o d))
         × (count_by (other b) (left d (propose_any o d)).journal.places < count_by (other b) d.journal.places)
     go None e h = absurd (both_ways false refl h)
@@ -321,10 +321,10 @@ proposed_any b d q h = go (proposal d) refl h
         × (count_by (other c) (left d (propose p d)).journal.places < count_by (other c) d.journal.places))
         q.ballot turned
 
-proposes : (d : Desk) → Sound d → is_there (proposal (left d (propose_all d))) ≡ false
+proposes : (d : Desk) → Sound d → is_some (proposal (left d (propose_all d))) ≡ false
 unfolding propose_all
 proposes d s =
-    repeat_ends (λ e. is_there (proposal e)) (λ e. propose_any (proposal e) e) (LeadsOn (promised d))
+    repeat_ends (λ e. is_some (proposal e)) (λ e. propose_any (proposal e) e) (LeadsOn (promised d))
     (λ e. count_by (other (promised d)) e.journal.places) (proposed_any (promised d)) span d
     (record { past = sound_past d s; ballot = refl; role = s.role })
     (let l = count_by-le-length (other (promised d)) d.journal.places in let e = sound_eight d s in omega arith)

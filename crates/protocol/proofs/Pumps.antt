@@ -1,5 +1,5 @@
 -- Pumping keeps what is known.
-use Rattle.std.proofs.Common.{◌≡◌, ℕ, ◌+◌, ◌<◌, ◌≤◌, Bool, true, false, cond, ◌&&◌, eqb, ltb, leb, List, [], ◌∷◌, drop, Some, None, Option, sym, refl, ap, ◌∙◌, subst, arith}
+use Rattle.std.proofs.Common.{◌≡◌, ℕ, ◌+◌, ◌<◌, ◌≤◌, Bool, true, false, cond, ◌&&◌, eqb, ltb, leb, List, [], ◌∷◌, drop, Some, None, Option, sym, refl, ap, ◌∙◌, subst, arith, is_some}
 use Rattle.std.specs.List.{ContainsAt as Has}
 use Rattle.std.proofs.lemmas.Bool.{and_from, eq-eqb, le-leb, lt-ltb}
 use Rattle.std.proofs.ByRecursion.{has_push}
@@ -14,7 +14,6 @@ use Rattle.journal.specs.declared.writes.Write.TheVariants.{Put}
 use Rattle.journal.specs.Meaning.{Meaning, settled_count, taken, after}
 use Rattle.journal.specs.Windows.{in_window, span}
 use Rattle.protocol.specs.declared.messages.Acknowledged.{Acknowledged}
-use Rattle.protocol.specs.Lists.{is_there}
 use Rattle.protocol.specs.Desks.{Role, following, standing, State, itself, with_role, with_ack, write, become}
 use Rattle.protocol.specs.Desks.{◌▸◌}
 use Rattle.protocol.specs.Rings.{pass_on}
@@ -169,7 +168,7 @@ module _ (f : Membership) (S : Command → Type 0) (P : ℕ → Past) (d : ℕ) 
   unfolding pumped propose_all
   went_pump x s good =
       went_then f S P d x s propose_all advance
-      (went_repeat f S P d (λ t. is_there (proposal t)) (λ t. propose_any (proposal t) t) (λ y. Unit {0})
+      (went_repeat f S P d (λ t. is_some (proposal t)) (λ t. propose_any (proposal t) t) (λ y. Unit {0})
       (λ y z h q. tt)
       (λ y t h q e. went_any y t h (proposal (desk y t)) refl) span x s good tt)
       (λ h. went_advance f S P d _ _ h)

@@ -1,6 +1,6 @@
 -- Promising a ballot, standing, and starting again keep what is known.
 use Rattle.std.proofs.Common.{◌≡◌, ℕ, ◌+◌, ◌*◌, ◌/◌, ◌%◌, ◌<◌, ◌≤◌, Bool, true, false, cond, ltb, List, [], ◌∷◌, length, filter, sym, refl, ap, ◌∙◌, subst, ⊎_elim, arith}
-use Rattle.std.specs.List.{AllByRecursion}
+use Rattle.std.specs.List.{AllByRecursion, range_with_len}
 use Rattle.std.proofs.ByRecursion.{All-map, All-from_get_or, has_push_cases}
 use Rattle.std.proofs.lemmas.List.{get_or-replicate}
 use Rattle.std.proofs.lemmas.Bool.{le-leb, ltb-true, ltb-false}
@@ -13,7 +13,6 @@ use Rattle.journal.specs.declared.writes.Write.TheVariants.{Promise, Put}
 use Rattle.journal.specs.Meaning.{blank, taken, after}
 use Rattle.journal.specs.Windows.{element_at, span}
 use Rattle.protocol.specs.declared.messages.Acknowledged.{Acknowledged}
-use Rattle.protocol.specs.Lists.{up_from}
 use Rattle.protocol.specs.Desks.{Role, following, State, Desk, Step, ◌▸◌, write, send, become, quiet}
 use Rattle.protocol.specs.Desks.{promised, me, itself, none, ack_of, with_role, stopped, cleared}
 use Rattle.protocol.specs.Messages.{owner, prepare}
@@ -53,8 +52,8 @@ lowest_own d b h =
 pub prepares_facts : (R : ℕ → Past) (named : ℕ → Bool) (d : Desk) → AllByRecursion (Fact R) (prepares named d)
 unfolding prepares
 prepares_facts R named d =
-    All-map (Fact R) (λ e. prepare (me d) e (promised d) (count_of d + 1)) (filter named (up_from 0 32))
-    (All-from_get_or (λ e. Fact R (prepare (me d) e (promised d) (count_of d + 1))) (filter named (up_from 0 32)) 0
+    All-map (Fact R) (λ e. prepare (me d) e (promised d) (count_of d + 1)) (filter named (range_with_len 0 32))
+    (All-from_get_or (λ e. Fact R (prepare (me d) e (promised d) (count_of d + 1))) (filter named (range_with_len 0 32)) 0
     (λ i h. tt))
   where
     count_of : Desk → ℕ

@@ -1,6 +1,6 @@
 -- What a director tells of its settled slots and open entries is true; and what it passes on again.
 use Rattle.std.proofs.Common.{◌≡◌, ℕ, zero, suc, ◌+◌, ◌-◌, ◌<◌, ◌≤◌, min, Bool, true, false, cond, ◌&&◌, eqb, leb, List, [], ◌∷◌, length, get_or, sym, refl, ap, ◌∙◌, subst, arith}
-use Rattle.std.specs.List.{flat_map, AllByRecursion}
+use Rattle.std.specs.List.{flat_map, AllByRecursion, range_with_len}
 use Rattle.std.proofs.ByRecursion.{All-map, All-append}
 use Rattle.std.proofs.lemmas.List.{get_or-map, length-map}
 use Rattle.std.proofs.lemmas.Bool.{and_parts, leb-true, eqb-true, cond-false, ne_eqb}
@@ -9,7 +9,6 @@ use Rattle.command.specs.Members.{Membership}
 use Rattle.journal.specs.declared.writes.Entry.{Entry}
 use Rattle.journal.specs.Meaning.{noop, blank, open_of, settled_of}
 use Rattle.journal.specs.Windows.{span}
-use Rattle.protocol.specs.Lists.{up_from}
 use Rattle.protocol.specs.Desks.{Role, following, standing, State, itself, ack_of, send}
 use Rattle.protocol.specs.Messages.{owner, learn, promise as promiseOf}
 use Rattle.protocol.specs.Rings.{open_at, window, passed}
@@ -25,16 +24,16 @@ use Rattle.protocol.proofs.Passes.{passed_facts}
 use Rattle.protocol.proofs.Advances.{own_vote, entry_vote, entry_bounds}
 use Rattle.protocol.proofs.Stands.{prepares_facts}
 
-all_up_from : (Q : ℕ → Type 0) (k a : ℕ) → ((n : ℕ) → a ≤ n → n < a + k → Q n) → AllByRecursion Q (up_from a k)
+all_up_from : (Q : ℕ → Type 0) (k a : ℕ) → ((n : ℕ) → a ≤ n → n < a + k → Q n) → AllByRecursion Q (range_with_len a k)
 all_up_from Q zero a h = tt
 all_up_from Q (suc k) a h =
     (h a (omega arith) (omega arith), all_up_from Q k (a + 1) (λ n l r. h n (omega arith) (omega arith)))
 
-length_up_from : (k a : ℕ) → length (up_from a k) ≡ k
+length_up_from : (k a : ℕ) → length (range_with_len a k) ≡ k
 length_up_from zero a = refl
 length_up_from (suc k) a = ap suc (length_up_from k (a + 1))
 
-get_d_up_from : (k a i : ℕ) → i < k → get_or (up_from a k) i 0 ≡ a + i
+get_d_up_from : (k a i : ℕ) → i < k → get_or (range_with_len a k) i 0 ≡ a + i
 get_d_up_from zero a i h = absurd (omega arith)
 get_d_up_from (suc k) a zero h = omega arith
 get_d_up_from (suc k) a (suc i) h = let r = get_d_up_from k (a + 1) i (omega arith) in omega arith
@@ -72,13 +71,13 @@ module _ (f : Membership) (S : Command → Type 0) (P : ℕ → Past) (d : ℕ) 
   unfolding learns
   learns_facts to n some =
       let k : ℕ = min (count x) (n + 7) + 1 - n in
-      All-map (Fact R) (λ j. learn s.number to j (settled_of x.journal j)) (up_from n k)
+      All-map (Fact R) (λ j. learn s.number to j (settled_of x.journal j)) (range_with_len n k)
       (all_up_from (λ j. Fact R (learn s.number to j (settled_of x.journal j))) k n
       (λ j low high. learn_fact to j (omega arith) (omega arith)))
 
   entry_is : (n i : ℕ) → i < 8 → get_or (entries_from (desk x s) n) i blank ≡ open_of x.journal (n + i)
   entry_is n i h =
-      get_or-map (open_at (desk x s)) (up_from n span) i 0 blank (omega (arith, length_up_from span n))
+      get_or-map (open_at (desk x s)) (range_with_len n span) i 0 blank (omega (arith, length_up_from span n))
       ∙ ap (open_of x.journal) (get_d_up_from span n i h)
 
   -- a promise, with the open entries from a slot on that is not settled
@@ -87,7 +86,7 @@ module _ (f : Membership) (S : Command → Type 0) (P : ℕ → Past) (d : ℕ) 
   promise_fact to b n low above =
       let here : R s.number ≡ x = ap R good.knows.number ∙ upd_here P d x in
       record {
-        eight = length-map (up_from n span) (open_at (desk x s)) ∙ length_up_from span n;
+        eight = length-map (range_with_len n span) (open_at (desk x s)) ∙ length_up_from span n;
         promised = subst (λ (y : Past). b ≤ promise y) (sym here) low;
         told = λ j a c from lower v.
             let mine : Voted x j a c = subst (λ (y : Past). Voted y j a c) here v in

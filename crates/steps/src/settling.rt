@@ -10,16 +10,10 @@ ghost use Rattle.std.specs.Prelude.{◌≡◌, [], ◌∷◌};
 
 use crate::chains::Chains;
 use crate::memory::Memory;
-use command::{Command, DirectorSet};
+use command::Command;
 use journal::{Entry, Journal};
 use machine::Machine;
 use protocol::{Acknowledged, Window, place_of};
-
-/// Nothing is known of who put a slot.
-pub(crate) const NONE: Acknowledged = Acknowledged {
-    ballot: 0,
-    set: DirectorSet { bits: 0 },
-};
 
 /// Nothing is open or reported in a slot.
 pub(crate) const BLANK: Entry = Entry {
@@ -129,7 +123,7 @@ impl Memory {
         Window {
             places: &mut self.acks,
         }
-        .put(slot, NONE);
+        .put(slot, Acknowledged::NONE);
         Window {
             places: &mut self.reports,
         }
