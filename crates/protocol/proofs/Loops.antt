@@ -88,10 +88,10 @@ enough_some ms s h e =
     let z = ap (votes ms) e ∙ votes_none ms in
     omega arith
 
-abbrev some : Acknowledged → Bool
+abbrev pub some : Acknowledged → Bool
 some a = not (eqb a.set.bits 0)
 
-advance_falls : (d : Desk) → length d.state.acks ≡ 8 → backed d ≡ true
+pub advance_falls : (d : Desk) → length d.state.acks ≡ 8 → backed d ≡ true
     → (length (left d (settle_open d)).state.acks ≡ 8)
     × (count_by some (left d (settle_open d)).state.acks < count_by some d.state.acks)
 unfolding left settle_open settle go_on both write become backed

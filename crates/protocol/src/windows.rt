@@ -12,18 +12,17 @@ pub fn place_of(slot: u32) -> usize
 }
 
 /// A window over eight places, in which slot n has place n mod 8. The rule is the same for every kind of element.
-/// Building block: its methods ask for eight places.
 // A slice, not `&mut [T; 8]`: to index such an array at a type parameter each method would have to ask how large a `T`
-// is in memory, in place of how many places there are.
+// is in memory.
 #[derive(Drop)]
 pub struct Window<'a, T> {
     pub places: &'a mut [T],
+    ghost eight: { length places.now ≡ span },
 }
 
 impl<T: Copy> Window<'_, T> {
     /// The element of a slot.
     pub fn get(&self, slot: u32) -> T
-        requires { length self.now.places.now ≡ span }
         ensures { result ≡ element_at result self.now.places.now slot }
     {
         let places: &[T] = self.places;
@@ -32,7 +31,6 @@ impl<T: Copy> Window<'_, T> {
 
     /// Another element for a slot. A slot that is settled is forgotten by putting the blank one.
     pub fn put(&mut self, slot: u32, element: T)
-        requires { length self.old.places.now ≡ span }
         ensures places { self.new.places.now
             ≡ put_at self.old.places.now slot element }
         ensures lender { self.new.places.ghost_name ≡ self.old.places.ghost_name }
