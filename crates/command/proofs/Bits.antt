@@ -1,10 +1,11 @@
 -- Bits of a set of directors.
-use Rattle.std.proofs.Common.{◌≡◌, ℕ, zero, suc, ◌+◌, ◌*◌, ◌/◌, ◌%◌, ◌^◌, ◌<◌, ◌≤◌, Bool, true, false, cond, ◌||◌, eqb, leb, sym, refl, ap, ◌∙◌, ap₂, one-mul, pow-suc, arith, pow_pos, pow_mono}
+use Rattle.std.proofs.Common.{◌≡◌, ℕ, zero, suc, ◌+◌, ◌*◌, ◌/◌, ◌%◌, ◌^◌, ◌<◌, ◌≤◌, true, false, cond, ◌||◌, eqb, leb, sym, refl, ap, ◌∙◌, ap₂, one-mul, pow-suc, arith, pow_pos, pow_mono}
 use native.Mathlib.Nat.{div_self, zero-div}
 use lib.Bits.{bit_and, bit_or, or_shr, or_mod, and_shr, and_mod, or_zero_r, and_zero_r}
 use lib.Count.{ones, ones_step}
 use Rattle.std.proofs.lemmas.Nat.{div_below, shr-shr}
 use Rattle.std.proofs.lemmas.Bool.{ne_eqb, eqb-false, cond-true, le-leb}
+use Rattle.std.proofs.Math.Bool.{or-true, or-false}
 use Rattle.command.specs.Sets.{has, with_director}
 
 -- nobody above 31 is in a set of 32 bits
@@ -39,19 +40,11 @@ has_more s d m h =
 has_power : (d : ℕ) → has (2 ^ d) d ≡ true
 has_power d = ap (λ (n : ℕ). eqb (n % 2) 1) (div_self (pow_pos d))
 
-or_true : (b : Bool) → (b || true) ≡ true
-or_true true = refl
-or_true false = refl
-
-or_false : (b : Bool) → (b || false) ≡ b
-or_false true = refl
-or_false false = refl
-
 -- a director that joins is in the set
 pub has_joined : (s d : ℕ) → d ≤ 31 → has (with_director s d) d ≡ true
 has_joined s d h =
     ap (λ (n : ℕ). has n d) (cond-true (leb d 31) (bit_or s (2 ^ d)) s (le-leb d 31 h))
-    ∙ has_or s (2 ^ d) d ∙ ap (λ b. has s d || b) (has_power d) ∙ or_true (has s d)
+    ∙ has_or s (2 ^ d) d ∙ ap (λ b. has s d || b) (has_power d) ∙ or-true (has s d)
 
 -- the empty set has nobody
 pub has_nothing : (d : ℕ) → has 0 d ≡ false
@@ -79,7 +72,7 @@ has_other_power (suc m) (suc d) ne =
 pub has_other : (s m d : ℕ) → (m ≡ d → ⊥) → has (with_director s m) d ≡ has s d
 has_other s m d ne =
     elim (leb m 31) as (λ b. has (cond b (bit_or s (2 ^ m)) s) d ≡ has s d)
-    [ true ↦ has_or s (2 ^ m) d ∙ ap (λ b. has s d || b) (has_other_power m d ne) ∙ or_false (has s d) | false ↦ refl ]
+    [ true ↦ has_or s (2 ^ m) d ∙ ap (λ b. has s d || b) (has_other_power m d ne) ∙ or-false (has s d) | false ↦ refl ]
 
 -- a masked set, counted by its lowest digit and the rest
 ones_and : (s t : ℕ) → ones (bit_and s t) ≡ bit_and (s % 2) (t % 2) + ones (bit_and (s / 2) (t / 2))

@@ -1,5 +1,6 @@
 pub mod Bits
 pub mod Lists
+pub mod Places
 pub mod Count
 pub mod Changes
-pub mod Slots
+pub mod Removal

@@ -1,16 +1,12 @@
 -- The chain that counts for each slot, from the founding chain and the settled commands.
 use Rattle.std.specs.Prelude.{ℕ, ◌-◌, cond, List, [], ◌∷◌, take, Some, None, Ok, Err, Option, Result}
 use Rattle.command.specs.declared.Command.{Command}
-use Rattle.command.specs.declared.Verb.{Verb}
-use Rattle.command.specs.declared.Verb.TheVariants.{Noop, Add, Remove, Change}
+use Rattle.command.specs.declared.verbs.Verb.{Verb}
+use Rattle.command.specs.declared.verbs.Verb.TheVariants.{Noop, Add, Remove, Change}
 use Rattle.command.specs.declared.chains.Chain.{Chain}
 use Rattle.command.specs.declared.chains.InvalidChain.{InvalidChain}
 use Rattle.command.specs.Commands.{verb_of, well_formed}
 use Rattle.command.specs.Members.{Membership, valid_chain, founded, added, removed}
-
--- what a chain of the code stands for
-abbrev pub membership : Chain → Membership
-membership c = record { members = take c.count c.places; ever = c.ever.bits }
 
 -- the refusal's number
 abbrev pub refusal_number : InvalidChain → ℕ
@@ -18,7 +14,7 @@ refusal_number _ = 11
 
 -- what making a chain answers, by its meaning and its refusal's number
 abbrev pub answered : Result Chain InvalidChain → Result Membership ℕ
-answered (Ok c) = Ok (membership c)
+answered (Ok c) = Ok c
 answered (Err e) = Err (refusal_number e)
 
 -- the answer that making a chain of these members owes: the founded chain, or refusal 11 where they are no valid chain

@@ -1,8 +1,8 @@
 -- What a command's verb means, and which commands may stand in a list.
 use Rattle.std.specs.Prelude.{ℕ, ◌^◌, ◌<◌, Bool, true, false, cond, ◌&&◌, Some, None, Option, ◌==◌, nat_le}
 use Rattle.command.specs.declared.Command.{Command}
-use Rattle.command.specs.declared.Verb.{Verb}
-use Rattle.command.specs.declared.Verb.TheVariants.{Noop, Add, Remove, Change}
+use Rattle.command.specs.declared.verbs.Verb.{Verb}
+use Rattle.command.specs.declared.verbs.Verb.TheVariants.{Noop, Add, Remove, Change}
 
 -- a serial's width in bytes
 abbrev pub serial_bytes : ℕ

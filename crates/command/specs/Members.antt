@@ -1,11 +1,17 @@
 -- Chains of directors, and what a settled command makes of them.
-use Rattle.std.specs.Prelude.{ℕ, Bool, true, false, cond, not, ◌&&◌, ◌||◌, List, [], ◌∷◌, ◌++◌, length, filter, ◌==◌, nat_le, nat_lt}
+use Rattle.std.specs.Prelude.{ℕ, Option, Some, None, Bool, true, cond, not, ◌&&◌, List, [], ◌∷◌, ◌++◌, length, filter, ◌==◌, nat_le, nat_lt}
+use Rattle.std.specs.List.{list_any, position_or_len}
 use Rattle.command.specs.Sets.{has, with_director, set_of}
 
 -- d stands in the list
 abbrev pub is_member : ℕ → List ℕ → Bool
-is_member d [] = false
-is_member d (m ∷ ms) = m == d || is_member d ms
+is_member d ms = list_any (λ m. m == d) ms
+
+-- where d stands in the list, from 0
+abbrev pub place_of : ℕ → List ℕ → Option ℕ
+place_of d ms =
+    let i = position_or_len (λ m. m == d) ms in
+    cond (nat_lt i (length ms)) (Some i) None
 
 -- each is a director's number, and no two are the same
 abbrev pub different_directors : List ℕ → Bool

@@ -1,22 +1,44 @@
 //! The chain as a value that cannot be wrong: 1 to 7 different directors, each of them among those who were ever
 //! members.
 
-ghost use Rattle.std.specs.Prelude.{◌≡◌, ◌≤◌, true, take};
-ghost use Rattle.command.specs.Members.{valid_chain, all_in};
-
 use crate::DirectorSet;
+use std::error::Error;
+use std::fmt;
+use std::marker::Model;
 
 /// A chain of directors in its order, and the set of all who were ever members of it.
-#[derive(Clone, Copy)]
+// Seven places and a count, and no Vec: a chain is copied in every call, and no call may need memory.
+#[derive(Clone, Copy, PartialEq, Eq, Debug)]
 pub struct Chain {
     pub(crate) places: [u8; 7],
     pub(crate) count: usize,
     pub(crate) ever: DirectorSet,
-    ghost few: { count ≤ 7 },
-    ghost valid: { valid_chain (take count places) ≡ true },
-    ghost known: { all_in ever.bits (take count places) ≡ true },
+}
+
+impl Model for Chain {
+    ghost use Rattle.command.specs.Members.{Membership};
+
+    ghost Value = { Membership };
+
+    ghost use Rattle.command.specs.Places.{membership, places_of, IsChain, gives_back};
+
+    ghost view = { membership };
+
+    ghost invariant = { IsChain };
+
+    ghost inverse = { places_of };
+
+    ghost inverse_ok = { gives_back };
 }
 
 /// Why no chain was made (refusal 11): the list has none or more than 7, a number above 31, or one twice.
 #[derive(Clone, Copy, PartialEq, Eq, Debug)]
 pub struct InvalidChain;
+
+impl fmt::Display for InvalidChain {
+    fn fmt<W: fmt::Write>(&self, f: &mut fmt::Formatter<W>) -> fmt::Result {
+        f.write_str("a chain is 1 to 7 different directors from 0 to 31")
+    }
+}
+
+impl Error for InvalidChain {}

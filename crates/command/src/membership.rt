@@ -1,9 +1,10 @@
 //! How chains are made and how settled commands change them.
 
-ghost use Rattle.command.specs.Chains.{membership, answered, founding, refusal_number, after, after_all, chain_for};
-ghost use Rattle.command.specs.Members.{valid_chain, different_directors, is_member, without, added, removed};
+ghost use Rattle.command.specs.Chains.{answered, founding, refusal_number, after, after_all, chain_for};
+ghost use Rattle.command.specs.Members.{valid_chain, different_directors, is_member, place_of, added, removed};
+ghost use Rattle.command.specs.Places.{placed};
 ghost use Rattle.command.specs.Sets.{set_of};
-ghost use Rattle.std.specs.Prelude.{◌≡◌, ◌≤◌, length, take};
+ghost use Rattle.std.specs.Prelude.{◌≡◌, ◌≤◌, length};
 
 use crate::{Chain, Command, DirectorSet, InvalidChain, Verb};
 
@@ -36,51 +37,49 @@ impl Chain {
 
     /// The members in the chain's order.
     pub fn members(&self) -> &[u8]
-        ensures { result.now ≡ (membership self.now).members }
+        ensures { result.now ≡ self.now.members }
     {
         &self.places[0..self.count]
     }
 
     /// All who were ever members.
     pub fn ever(&self) -> DirectorSet
-        ensures { result.bits ≡ (membership self.now).ever }
+        ensures { result.bits ≡ self.now.ever }
     {
         self.ever
     }
 
     /// Whether a director is a member.
     pub fn contains(&self, director: u8) -> bool
-        ensures { result ≡ is_member director (membership self.now).members }
+        ensures { result ≡ is_member director self.now.members }
     {
-        is_listed(director, self.members())
+        self.members().contains(&director)
     }
 
     /// The set of the members.
     pub fn set(&self) -> DirectorSet
-        ensures { result.bits ≡ set_of (membership self.now).members }
+        ensures { result.bits ≡ set_of self.now.members }
     {
         set_of(self.members())
     }
 
     /// The chain after a settled command: an add or a remove that has an effect changes it, all else leaves it.
     pub fn after(&self, command: &Command) -> Chain
-        ensures { membership result ≡ after (membership self.now) command.now }
+        ensures { result ≡ after self.now command.now }
     {
         if !command.is_well_formed() {
             return *self;
         }
-        match Verb::of(command.verb) {
-            Some(Verb::Add) => self.with_added((command.a % 32) as u8),
-            Some(Verb::Remove) => self.with_removed((command.a % 32) as u8),
-            Some(Verb::Noop) => *self,
-            Some(Verb::Change) => *self,
-            None => *self,
+        match Verb::try_from(command.verb) {
+            Ok(Verb::Add) => self.with_added(command.a as u8),
+            Ok(Verb::Remove) => self.with_removed(command.a as u8),
+            Ok(Verb::Noop | Verb::Change) | Err(_) => *self,
         }
     }
 
     /// The chain that counts for a slot, where this is the founding chain and these are the commands settled so far.
     pub fn for_slot(&self, settled: &[Command], slot: usize) -> Chain
-        ensures { membership result ≡ chain_for (membership self.now) settled.now slot }
+        ensures { result ≡ chain_for self.now settled.now slot }
     {
         let count = settled.len().min(slot.saturating_sub(LAG));
         self.after_all(&settled[0..count])
@@ -88,7 +87,7 @@ impl Chain {
 
     /// The chain after a list of settled commands.
     pub fn after_all(&self, settled: &[Command]) -> Chain
-        ensures { membership result ≡ after_all (membership self.now) settled.now }
+        ensures { result ≡ after_all self.now settled.now }
     {
         let mut chain = *self;
         for command in settled {
@@ -100,7 +99,7 @@ impl Chain {
     // Director `a` at the end, if there is room and it was never a member.
     fn with_added(&self, a: u8) -> Chain
         requires { a ≤ 31 }
-        ensures { membership result ≡ added a (membership self.now) }
+        ensures { result ≡ added a self.now }
     {
         if self.count >= 7 || self.ever.contains(a) {
             return *self;
@@ -116,15 +115,20 @@ impl Chain {
 
     // Without director `a`, if it is a member and not the only one.
     fn with_removed(&self, a: u8) -> Chain
-        ensures { membership result ≡ removed a (membership self.now) }
+        ensures { result ≡ removed a self.now }
     {
-        if self.count < 2 || !self.contains(a) {
+        if self.count < 2 {
             return *self;
         }
-        let (places, count) = all_but(a, self.members());
+        let Some(at) = place_of(a, self.members()) else {
+            return *self;
+        };
+        let mut places = self.places;
+        places[at] = 0;
+        places[at..].rotate_left(1);
         Chain {
             places,
-            count,
+            count: self.count - 1,
             ever: self.ever,
         }
     }
@@ -141,32 +145,30 @@ fn is_valid(members: &[u8]) -> bool
 fn are_different(members: &[u8]) -> bool
     ensures { result ≡ different_directors members.now }
 {
-    for (i, m) in members.iter().enumerate() {
-        if *m > 31 {
+    let mut left = members;
+    while let Some((member, others)) = left.split_first() {
+        if *member > 31 || others.contains(member) {
             return false;
         }
-        if is_listed(*m, &members[i + 1..]) {
-            return false;
-        }
+        left = others;
     }
     true
 }
 
-// Whether a director stands in a list.
-fn is_listed(director: u8, members: &[u8]) -> bool
-    ensures { result ≡ is_member director members.now }
+// Where a director stands in a list.
+fn place_of(director: u8, members: &[u8]) -> Option<usize>
+    ensures { result ≡ place_of director members.now }
 {
-    members.contains(&director)
+    members.iter().position(|m| *m == director)
 }
 
-// The first places of a chain taken by its members.
+// The places of a chain with these members.
 fn placed(members: &[u8]) -> [u8; 7]
     requires { length members.now ≤ 7 }
-    ensures { take (length members.now) result ≡ members.now }
+    ensures { result ≡ placed members.now }
 {
-    let mut places = [0u8; 7];
-    let count = members.len();
-    places[0..count].copy_from_slice(members);
+    let mut places = [0; 7];
+    places[..members.len()].copy_from_slice(members);
     places
 }
 
@@ -179,21 +181,4 @@ fn set_of(members: &[u8]) -> DirectorSet
         set = set.with(*m);
     }
     set
-}
-
-// The first places of a chain taken by the members but `a`, and how many those are.
-fn all_but(a: u8, members: &[u8]) -> ([u8; 7], usize)
-    requires { length members.now ≤ 7 }
-    ensures within { result.1 ≤ 7 }
-    ensures kept { take result.1 result.0 ≡ without a members.now }
-{
-    let mut places = [0u8; 7];
-    let mut count = 0;
-    for m in members {
-        if *m != a {
-            places[count] = *m;
-            count += 1;
-        }
-    }
-    (places, count)
 }

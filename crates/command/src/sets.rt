@@ -59,6 +59,7 @@ impl DirectorSet {
 }
 
 // Whether bit `place` of a number is 1; past its 32 bits none is.
+// A function of its own: a proof knows of a parameter that is a number, and not of a field, that it fits its type.
 fn bit_is_set(bits: u32, place: u8) -> bool
     ensures { result ≡ has bits place }
 {

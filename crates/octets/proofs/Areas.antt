@@ -1,6 +1,6 @@
 -- What a write leaves in an area, part by part.
-use Rattle.std.proofs.Common.{◌≡◌, ℕ, suc, ◌+◌, ◌-◌, ◌<◌, ◌≤◌, List, [], ◌∷◌, ◌++◌, length, get_or, take, drop, sym, refl, ap, ◌∙◌, ap₂, append_assoc, arith}
-use Rattle.std.proofs.lemmas.List.{length-append, length-take, length-take-le, length-drop, drop_more, drop-drop, take_at, drop_at, take-append-le, drop-append-le, take-append-drop, take-take}
+use Rattle.std.proofs.Common.{◌≡◌, ℕ, suc, ◌+◌, ◌-◌, ◌<◌, ◌≤◌, List, [], ◌∷◌, ◌++◌, length, get_or, take, drop, sym, ap, ◌∙◌, ap₂, append_assoc, arith}
+use Rattle.std.proofs.lemmas.List.{length-append, length-take-le, length-drop, drop_more, drop-drop, take_at, drop_at, take-append-le, take-take}
 use Rattle.octets.specs.Areas.{part, over}
 
 -- a part by its first byte
@@ -55,15 +55,3 @@ module _ (area : List ℕ) (i : ℕ) (bs : List ℕ) (fits : i + length bs ≤ l
 pub part_two : (i : ℕ) (bs : List ℕ) → i + 2 ≤ length bs → part i 2 bs ≡ get_or bs i 0 ∷ get_or bs (i + 1) 0 ∷ []
 part_two i bs h = part_more i 1 bs (omega arith)
     ∙ ap (λ (xs : List ℕ). get_or bs i 0 ∷ xs) (part_more (i + 1) 0 bs (omega arith))
-
-pub part_four : (i : ℕ) (bs : List ℕ) → i + 4 ≤ length bs
-    → part i 4 bs ≡ get_or bs i 0 ∷ get_or bs (i + 1) 0 ∷ get_or bs (i + 2) 0 ∷ get_or bs (i + 3) 0 ∷ []
-part_four i bs h =
-    let e : i + 1 + 1 ≡ i + 2 = omega arith in
-    let f : i + 2 + 1 ≡ i + 3 = omega arith in
-    part_more i 3 bs (omega arith)
-    ∙ ap (λ (xs : List ℕ). get_or bs i 0 ∷ xs)
-    (part_more (i + 1) 2 bs (omega arith)
-    ∙ ap (λ (xs : List ℕ). get_or bs (i + 1) 0 ∷ xs)
-    (ap (λ (j : ℕ). part j 2 bs) e ∙ part_two (i + 2) bs (omega arith)
-    ∙ ap (λ (j : ℕ). get_or bs (i + 2) 0 ∷ get_or bs j 0 ∷ []) f))

@@ -3,9 +3,81 @@
 
 #![tactic(auto)]
 
-ghost use Rattle.std.specs.Prelude.{◌≡◌, ◌+◌, ◌≤◌, [], ◌∷◌, length};
+ghost use Rattle.std.specs.Prelude.{◌≡◌, ℕ, ◌+◌, ◌≤◌, length};
 ghost use Rattle.octets.specs.Areas.{part, over};
 ghost use Rattle.octets.specs.Numbers.{le, num};
+
+/// A number that formats store in a fixed count of bytes, the lowest first.
+pub trait Number: Copy {
+    ghost BYTES: { ℕ };
+
+    ghost value: { Self → ℕ };
+
+    /// How many bytes it takes.
+    const BYTES: usize;
+
+    /// Writes it from offset `at` on. Building block: it must lie within the area.
+    fn write_le(self, area: &mut [u8], at: usize)
+        requires { at + BYTES ≤ length area.old }
+        ensures { area.new ≡ over area.old at (le BYTES (value self)) };
+
+    /// The number stored from offset `at` on. Building block: it must lie within the area.
+    fn read_le(area: &[u8], at: usize) -> Self
+        requires { at + BYTES ≤ length area.now }
+        ensures { value result ≡ num (part at BYTES area.now) };
+}
+
+// One impl for each type: the bytes come from the type's own `to_le_bytes` and `from_le_bytes`, which no trait has.
+
+impl Number for u8 {
+    ghost BYTES = { 1 };
+
+    ghost value = { λ n. n };
+
+    const BYTES: usize = 1;
+
+    fn write_le(self, area: &mut [u8], at: usize) {
+        area[at] = self;
+    }
+
+    fn read_le(area: &[u8], at: usize) -> u8 {
+        u8::from_le_bytes([area[at]])
+    }
+}
+
+impl Number for u16 {
+    ghost BYTES = { 2 };
+
+    ghost value = { λ n. n };
+
+    const BYTES: usize = 2;
+
+    fn write_le(self, area: &mut [u8], at: usize) {
+        let two = self.to_le_bytes();
+        write_bytes(area, at, &two);
+    }
+
+    fn read_le(area: &[u8], at: usize) -> u16 {
+        u16::from_le_bytes([area[at], area[at + 1]])
+    }
+}
+
+impl Number for u32 {
+    ghost BYTES = { 4 };
+
+    ghost value = { λ n. n };
+
+    const BYTES: usize = 4;
+
+    fn write_le(self, area: &mut [u8], at: usize) {
+        let four = self.to_le_bytes();
+        write_bytes(area, at, &four);
+    }
+
+    fn read_le(area: &[u8], at: usize) -> u32 {
+        u32::from_le_bytes([area[at], area[at + 1], area[at + 2], area[at + 3]])
+    }
+}
 
 /// Writes these bytes from offset `at` on. Building block: they must lie within the area.
 pub fn write_bytes(area: &mut [u8], at: usize, bytes: &[u8])
@@ -14,46 +86,4 @@ pub fn write_bytes(area: &mut [u8], at: usize, bytes: &[u8])
 {
     let end = at + bytes.len();
     area[at..end].copy_from_slice(bytes);
-}
-
-/// Writes a number as one byte. Building block: it must lie within the area.
-pub fn write_u8(area: &mut [u8], at: usize, n: u8)
-    requires { at + 1 ≤ length area.old }
-    ensures { area.new ≡ over area.old at (n ∷ []) }
-{
-    write_bytes(area, at, &[n]);
-}
-
-/// Writes a number as two bytes. Building block: they must lie within the area.
-pub fn write_u16(area: &mut [u8], at: usize, n: u16)
-    requires { at + 2 ≤ length area.old }
-    ensures { area.new ≡ over area.old at (le 2 n) }
-{
-    let two = n.to_le_bytes();
-    write_bytes(area, at, &two);
-}
-
-/// Writes a number as four bytes. Building block: they must lie within the area.
-pub fn write_u32(area: &mut [u8], at: usize, n: u32)
-    requires { at + 4 ≤ length area.old }
-    ensures { area.new ≡ over area.old at (le 4 n) }
-{
-    let four = n.to_le_bytes();
-    write_bytes(area, at, &four);
-}
-
-/// The number in the two bytes from offset `at` on. Building block: they must lie within the area.
-pub fn read_u16(area: &[u8], at: usize) -> u16
-    requires { at + 2 ≤ length area.now }
-    ensures { result ≡ num (part at 2 area.now) }
-{
-    u16::from_le_bytes([area[at], area[at + 1]])
-}
-
-/// The number in the four bytes from offset `at` on. Building block: they must lie within the area.
-pub fn read_u32(area: &[u8], at: usize) -> u32
-    requires { at + 4 ≤ length area.now }
-    ensures { result ≡ num (part at 4 area.now) }
-{
-    u32::from_le_bytes([area[at], area[at + 1], area[at + 2], area[at + 3]])
 }
