@@ -9,22 +9,10 @@ ghost use Rattle.std.specs.Prelude.{◌≡◌, [], ◌∷◌};
 
 use crate::desks::Desk;
 use crate::memory::Memory;
-use command::Command;
+use command::{Command, Verb};
 use journal::{Entry, Journal};
 use machine::Machine;
 use protocol::{Acknowledged, Window, place_of};
-
-/// Nothing is open or reported in a slot.
-pub(crate) const BLANK: Entry = Entry {
-    ballot: 0,
-    command: Command {
-        verb: 0,
-        origin: 0,
-        serial: 0,
-        a: 0,
-        b: 0,
-    },
-};
 
 impl<J: Journal, M: Machine> Desk<'_, '_, '_, J, M> {
     /// Settles a command in the next slot: in the journal, by the machine if it is for it, and then both windows move.
@@ -82,7 +70,7 @@ impl Memory {
         Window {
             places: &mut self.reports,
         }
-        .put(slot, BLANK);
+        .put(slot, Entry::BLANK);
     }
 }
 
@@ -91,8 +79,9 @@ fn run<M: Machine>(machine: &mut M, command: &Command, answer: u16) -> u16
     ensures { (M.state machine.new, result)
         ≡ ran M.rule (M.state machine.old, answer) (command.now ∷ []) }
 {
-    if command.verb < 16 {
-        return answer;
+    if Verb::try_from(command.verb) == Ok(Verb::Change) {
+        machine.apply(command)
+    } else {
+        answer
     }
-    machine.apply(command)
 }

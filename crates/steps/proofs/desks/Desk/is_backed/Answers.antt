@@ -1,6 +1,5 @@
 use Rattle.std.proofs.Common.{ℕ, ◌+◌, get_or, ap, arith}
 use Rattle.std.proofs.lemmas.Bool.{ne_eqb}
-use Rattle.command.specs.Chains.{membership}
 use Rattle.command.specs.Members.{Membership}
 use Rattle.protocol.specs.Desks.{Desk, none}
 use Rattle.steps.specs.Doing.{at}
@@ -15,7 +14,7 @@ returns-then-open-acks g c =
     backed_so d n c.open.result (get_or c.args.self.now.memory.now.acks c.place_of.result none)
     (ap (λ (k : ℕ). k + 1) e) c.open.ensures
     (ap (λ (i : ℕ). get_or c.args.self.now.memory.now.acks i none) c.place_of.ensures.place)
-    (membership c.get.result) c.is_enough.result c.if-open-acks.true
+    c.get.result c.is_enough.result c.if-open-acks.true
     (ap (λ (x : Membership). x.members)
     (c.get.ensures d.state.founding d.journal.settled c.args.self.now.ready (omega arith) (omega arith)))
     c.is_enough.ensures.answer
