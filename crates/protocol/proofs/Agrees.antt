@@ -1,8 +1,8 @@
 -- Directors agree in every run.
 use Rattle.std.proofs.Common.{◌≡◌, ℕ, ◌+◌, ◌≤◌, Bool, true, false, cond, List, [], ◌∷◌, ◌++◌, length, take, Some, None, Ok, sym, refl, ap, ◌∙◌, subst, inl, inr, ⊎_elim, append_assoc, append-nil, arith}
-use Rattle.std.specs.List.{ContainsAt as Has}
-use Rattle.std.proofs.ByRecursion.{all-has, has_push}
-use Rattle.std.proofs.lemmas.List.{length-append, nil_from_length}
+use Rattle.std.specs.List.{Contains}
+use Rattle.std.proofs.lemmas.List.Elements.{All-contains, Contains-push}
+use Rattle.std.proofs.lemmas.List.{length-append, nil_from_length, get_or_default}
 use Rattle.std.proofs.lemmas.Bool.{both_ways, cases_lt}
 use Rattle.archive.specs.Layout.{layout}
 use Rattle.command.specs.declared.Command.{Command}
@@ -137,7 +137,7 @@ module _ (k : Cluster) (es : List Event) (w : World) (i : Inv k es w) (d : ℕ) 
           founding = went.knows.founding;
           knows = λ u. went.knows;
           machine = λ u. machine_is;
-          facts = λ m h. all-has (Fact (upd (pasts w) d (plus x o.writes))) o.messages m went.facts h;
+          facts = λ m h. All-contains (Fact (upd (pasts w) d (plus x o.writes))) o.messages m went.facts h;
         }
 
 differ : ◌≡◌ {A = ℕ} 0 1 → {X : Type 0} → X
@@ -204,8 +204,8 @@ step k es w i d call places possible (accepts o e) =
       director = d;
       places = places;
       among =
-          subst (λ (a : Call). Has fs (record { director = d; call = a; places = places; ending = accepted })) s
-          (has_push es (record { director = d; call = call; places = places; ending = accepted }));
+          subst (λ (a : Call). Contains fs (record { director = d; call = a; places = places; ending = accepted })) s
+          (Contains-push es (record { director = d; call = call; places = places; ending = accepted }));
     } in
     let n = seated k fs w j d call possible submits places o e in
     let t : Seat = seat_after k.make call (w.seats d) o in
@@ -301,7 +301,7 @@ module _ (k : Cluster) (es : List Event) (v w : World) (i : Inv k es w)
             ∙ sym (i.machine e there);
         submitted = λ d c h.
             let s : Settled (pasts w d) (h.0 + 1) c =
-            record { index = h.0; slot = refl; within = h.1; is = h.2 noop } in
+            record { index = h.0; slot = refl; within = h.1; is = get_or_default (settled_list w d) h.0 noop c h.1 ∙ h.2 } in
             let chosen = i.core.chosen d (h.0 + 1) c s in
             let vote = by_some _ (λ e. Voted (pasts w e) (h.0 + 1) chosen.ballot c) chosen.by in
             i.core.known vote.0 (h.0 + 1) chosen.ballot c vote.1;

@@ -1,7 +1,7 @@
 -- Eight turns are enough for each loop.
 use Rattle.std.proofs.Common.{◌≡◌, ℕ, zero, suc, ◌+◌, ◌*◌, ◌%◌, ◌<◌, ◌≤◌, Bool, true, false, cond, not, eqb, ltb, leb, List, [], ◌∷◌, ◌++◌, length, get_or, drop, set, Some, None, count_by, Option, sym, refl, ap, ◌∙◌, subst, inl, inr, arith, length-set, is_some}
-use Rattle.std.specs.List.{ContainsAt as Has, AllByRecursion}
-use Rattle.std.proofs.ByRecursion.{All-drop, All-weaker, all_has_itself}
+use Rattle.std.specs.List.{Contains, All}
+use Rattle.std.proofs.lemmas.List.Elements.{All-drop, All-weaker, All-contains_itself}
 use Rattle.std.proofs.lemmas.List.Sums.{count_by-le-length, sum_by-set}
 use Rattle.std.proofs.lemmas.Bool.{and_parts, cases_Bool, both_ways, ltb-true, le-leb, ne_eqb, not_from_false, not_from_true, eqb-true, eqb-false, eq-eqb}
 use Rattle.command.specs.declared.Command.{Command}
@@ -201,10 +201,10 @@ command_formed : (d : Desk) (n : ℕ) (c : Command) (r : Role) → settled_by d 
 command_formed d n c following above near s e = let z : ◌≡◌ {A = ℕ} 0 1 = cc in absurd (omega arith)
 command_formed d n c (standing q line reports) above near s e = go (is_unreported n reports) refl e
   where
-    head : (line : List Command) → AllByRecursion (λ c. well_formed c ≡ true) line → head_of line ≡ Some c
+    head : (line : List Command) → All (λ c. well_formed c ≡ true) line → head_of line ≡ Some c
         → well_formed c ≡ true
     head [] a e = let z : ◌≡◌ {A = ℕ} 0 1 = cc in absurd (omega arith)
-    head (i ∷ line) a e = let same : i ≡ c = cc in ap well_formed (sym same) ∙ a.0
+    head (i ∷ line) a e = let same : i ≡ c = cc in ap well_formed (sym same) ∙ a 0 i (omega arith)
 
     go : (t : Bool) → is_unreported n reports ≡ t
         → cond t (head_of line) (Some (element_at blank reports n).command) ≡ Some c
@@ -220,7 +220,7 @@ role_fed : (d e : Desk) (n : ℕ) (r : Role) → promised d ≡ promised e → s
 role_fed d e n following is at s = tt
 role_fed d e n (standing q line reports) is at s = (
   subst (λ (b : ℕ). 1 ≤ b) is s.0,
-  elim (is_unreported n reports) as (λ t. AllByRecursion (λ c. well_formed c ≡ true) (cond t (drop 1 line) line))
+  elim (is_unreported n reports) as (λ t. All (λ c. well_formed c ≡ true) (cond t (drop 1 line) line))
       [ true ↦ All-drop (λ c. well_formed c ≡ true) 1 line s.1 | false ↦ s.1 ],
   λ j above near. s.2 j (omega arith) (omega arith),
 )
@@ -337,7 +337,7 @@ sound_role : (S : Command → Type 0) (R : ℕ → Past) (n : ℕ) (x : Past) (s
 sound_role S R n x s following bounds k = tt
 sound_role S R n x s (standing q line reports) bounds k = (
   k.some,
-  All-weaker (Has line) (λ c. well_formed c ≡ true) (λ c h. (k.waiting c h).1) line (all_has_itself line),
+  All-weaker (Contains line) (λ c. well_formed c ≡ true) (λ c h. (k.waiting c h).1) line (All-contains_itself line),
   λ j above near least.
       let v = k.voted j above near least in
       bounds v.0 j (element_at blank reports j).ballot (element_at blank reports j).command v.1,

@@ -1,7 +1,7 @@
 -- What a director tells of its settled slots and open entries is true; and what it passes on again.
 use Rattle.std.proofs.Common.{◌≡◌, ℕ, zero, suc, ◌+◌, ◌-◌, ◌<◌, ◌≤◌, min, Bool, true, false, cond, ◌&&◌, eqb, leb, List, [], ◌∷◌, length, get_or, sym, refl, ap, ◌∙◌, subst, arith}
-use Rattle.std.specs.List.{flat_map, AllByRecursion, range_with_len}
-use Rattle.std.proofs.ByRecursion.{All-map, All-append}
+use Rattle.std.specs.List.{flat_map, All, range_with_len}
+use Rattle.std.proofs.lemmas.List.Elements.{All-nil, All-cons, All-map, All-append}
 use Rattle.std.proofs.lemmas.List.{get_or-map, length-map}
 use Rattle.std.proofs.lemmas.Bool.{and_parts, leb-true, eqb-true, cond-false, ne_eqb}
 use Rattle.command.specs.declared.Command.{Command}
@@ -24,10 +24,11 @@ use Rattle.protocol.proofs.Passes.{passed_facts}
 use Rattle.protocol.proofs.Advances.{own_vote, entry_vote, entry_bounds}
 use Rattle.protocol.proofs.Stands.{prepares_facts}
 
-all_up_from : (Q : ℕ → Type 0) (k a : ℕ) → ((n : ℕ) → a ≤ n → n < a + k → Q n) → AllByRecursion Q (range_with_len a k)
-all_up_from Q zero a h = tt
+all_up_from : (Q : ℕ → Type 0) (k a : ℕ) → ((n : ℕ) → a ≤ n → n < a + k → Q n) → All Q (range_with_len a k)
+all_up_from Q zero a h = All-nil Q
 all_up_from Q (suc k) a h =
-    (h a (omega arith) (omega arith), all_up_from Q k (a + 1) (λ n l r. h n (omega arith) (omega arith)))
+    All-cons Q a (range_with_len (a + 1) k) (h a (omega arith) (omega arith))
+    (all_up_from Q k (a + 1) (λ n l r. h n (omega arith) (omega arith)))
 
 length_up_from : (k a : ℕ) → length (range_with_len a k) ≡ k
 length_up_from zero a = refl
@@ -38,9 +39,9 @@ get_d_up_from zero a i h = absurd (omega arith)
 get_d_up_from (suc k) a zero h = omega arith
 get_d_up_from (suc k) a (suc i) h = let r = get_d_up_from k (a + 1) i (omega arith) in omega arith
 
-all_joined : {X Y : Type 0} (Q : Y → Type 0) (g : X → List Y) → ((x : X) → AllByRecursion Q (g x)) → (xs : List X)
-    → AllByRecursion Q (flat_map g xs)
-all_joined Q g h [] = tt
+all_joined : {X Y : Type 0} (Q : Y → Type 0) (g : X → List Y) → ((x : X) → All Q (g x)) → (xs : List X)
+    → All Q (flat_map g xs)
+all_joined Q g h [] = All-nil Q
 all_joined Q g h (x ∷ xs) = All-append Q (g x) (flat_map g xs) (h x) (all_joined Q g h xs)
 
 -- a slot that is settled
@@ -67,7 +68,7 @@ module _ (f : Membership) (S : Command → Type 0) (P : ℕ → Past) (d : ℕ) 
     subst (λ (y : Past). Settled y n (settled_of x.journal n)) (sym (upd_here P d x)) (settled_at x n some within),
   )
 
-  pub learns_facts : (to n : ℕ) → 1 ≤ n → AllByRecursion (Fact R) (learns to n (desk x s))
+  pub learns_facts : (to n : ℕ) → 1 ≤ n → All (Fact R) (learns to n (desk x s))
   unfolding learns
   learns_facts to n some =
       let k : ℕ = min (count x) (n + 7) + 1 - n in
@@ -135,11 +136,11 @@ module _ (f : Membership) (S : Command → Type 0) (P : ℕ → Past) (d : ℕ) 
                 (entry_vote f S P d x s good n some),
           )
 
-  again_facts : (n : ℕ) → AllByRecursion (Fact R) (passed_again (desk x s) n)
+  again_facts : (n : ℕ) → All (Fact R) (passed_again (desk x s) n)
   again_facts n = go (eqb (open_of x.journal n).ballot (promise x) && leb 1 (promise x)) refl
     where
       go : (t : Bool) → (eqb (open_of x.journal n).ballot (promise x) && leb 1 (promise x)) ≡ t
-          → AllByRecursion (Fact R) (cond t (passed (desk x s) n (known_set (desk x s) n) 0) [])
+          → All (Fact R) (cond t (passed (desk x s) n (known_set (desk x s) n) 0) [])
       go true e =
           let p = and_parts (eqb (open_of x.journal n).ballot (promise x)) (leb 1 (promise x)) e in
           let is = eqb-true (open_of x.journal n).ballot (promise x) p.0 in
@@ -147,10 +148,10 @@ module _ (f : Membership) (S : Command → Type 0) (P : ℕ → Past) (d : ℕ) 
           let some : 1 ≤ (open_of x.journal n).ballot = omega arith in
           passed_facts f S P d x s good n some (known_set (desk x s) n) 0 (known_voted n some is)
           (told_none (open_of x.journal n).ballot)
-      go false e = tt
+      go false e = All-nil (Fact R)
 
-  asked_facts : (r : Role) → AllByRecursion (Fact R) (asked_again r (desk x s))
-  asked_facts following = tt
+  asked_facts : (r : Role) → All (Fact R) (asked_again r (desk x s))
+  asked_facts following = All-nil (Fact R)
   asked_facts (standing q line reports) = prepares_facts R _ (desk x s)
 
   went_ask_again : Went f S P d x (ask_again (desk x s))

@@ -1,6 +1,6 @@
 -- "As long as" means as long as: eight turns are enough for each loop, so that its test fails after them.
 use Rattle.std.specs.Prelude.{◌≡◌, ℕ, ◌+◌, ◌<◌, ◌≤◌, true, false, List, length, is_some}
-use Rattle.std.specs.List.{AllByRecursion}
+use Rattle.std.specs.List.{All}
 use Rattle.command.specs.Commands.{well_formed}
 use Rattle.journal.specs.declared.writes.Write.{Write}
 use Rattle.journal.specs.Laws.{Leads}
@@ -15,7 +15,7 @@ use Rattle.protocol.specs.Runs.{World, Cluster, Event, Run, desk_of}
 abbrev pub SoundRole : Desk → Role → Type 0
 SoundRole d following = Unit {0}
 SoundRole d (standing q line reports) =
-    (1 ≤ promised d) × AllByRecursion (λ c. well_formed c ≡ true) line
+    (1 ≤ promised d) × All (λ c. well_formed c ≡ true) line
     × ((n : ℕ) → settled_by d < n → n ≤ settled_by d + span → 1 ≤ (element_at blank reports n).ballot
     → well_formed (element_at blank reports n).command ≡ true)
 
