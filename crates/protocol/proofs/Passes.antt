@@ -1,5 +1,5 @@
 -- What a director passes on is true.
-use Rattle.std.proofs.Common.{ℕ, ◌≤◌, Bool, true, false, cond, List, [], Some, None, Option}
+use Rattle.std.proofs.Common.{ℕ, ◌≤◌, Bool, true, false, cond, [], Some, None, Option}
 use Rattle.std.specs.List.{All}
 use Rattle.std.proofs.lemmas.List.Elements.{All-nil, All-cons}
 use Rattle.command.specs.declared.Command.{Command}

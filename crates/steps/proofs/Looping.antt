@@ -6,7 +6,7 @@ use Rattle.machine.specs.Rules.{Rule}
 use Rattle.protocol.specs.Desks.{Desk, Outcome, Step, left, both, go_on, quiet, repeat, ◌▸◌}
 use Rattle.protocol.specs.Replies.{ran}
 use Rattle.protocol.specs.Settling.{advance, backed, settle_open}
-use Rattle.protocol.proofs.Loops.{some, advance_falls}
+use Rattle.protocol.proofs.Turns.{some, advance_falls}
 use Rattle.steps.specs.Doing.{Did}
 use Rattle.steps.proofs.Composing.{did_both, did_still}
 

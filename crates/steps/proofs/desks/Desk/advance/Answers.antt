@@ -13,9 +13,8 @@ loop-self-init g c =
 
 pub loop-self-smaller : goal.loop-self-smaller
 loop-self-smaller g c =
-    (advancing_on g.M.Machine.rule (at c.args.self.now) (at c.loop-self.self)
-    _ _ _ _ c.loop-self.invariant.going (at c.settle_open.new.self) _ _
-    c.loop-self.self.memory.now.eight
+    (advancing_on g.M.Machine.rule (at c.args.self.now) (at c.loop-self.self) _ _ _ _ c.loop-self.invariant.going
+    (at c.settle_open.new.self) _ _ c.loop-self.self.memory.now.eight
     (sym c.is_backed.ensures ∙ c.loop-self-test.true) c.settle_open.ensures.did).1
 
 pub loop-self-preserved : goal.loop-self-preserved
@@ -24,10 +23,11 @@ loop-self-preserved g c =
     let more : SameLenders c.loop-self.self c.settle_open.new.self = c.settle_open.ensures.lenders in
     record {
       going =
-          (advancing_on g.M.Machine.rule (at c.args.self.now)
-          (at c.loop-self.self) _ _ _ _ c.loop-self.invariant.going
-          (at c.settle_open.new.self) _ _ c.loop-self.self.memory.now.eight
-          (sym c.is_backed.ensures ∙ c.loop-self-test.true)
+          (advancing_on g.M.Machine.rule (at c.args.self.now) (at c.loop-self.self) _ _ _ _
+          c.loop-self.invariant.going (at c.settle_open.new.self)
+          (g.J.Journal.behind c.settle_open.new.self.journal.now)
+          (g.M.Machine.state c.settle_open.new.self.machine.now, c.settle_open.new.self.answer)
+          c.loop-self.self.memory.now.eight (sym c.is_backed.ensures ∙ c.loop-self-test.true)
           c.settle_open.ensures.did).0;
       lenders =
           record {

@@ -1,5 +1,5 @@
 use Rattle.std.proofs.Common.{count_by}
-use Rattle.protocol.proofs.Loops.{some}
+use Rattle.protocol.proofs.Turns.{some}
 use Rattle.steps.specs.Doing.{at, SameLenders}
 use Rattle.steps.proofs.Looping.{Advancing}
 use Rattle.steps.proofs.desks.Desk.advance.Given as goal
