@@ -1,6 +1,6 @@
 -- What a sent message tells for good, and what a director knows.
 use Rattle.std.proofs.Common.{◌≡◌, ℕ, ◌+◌, ◌-◌, ◌<◌, ◌≤◌, true, List, length, get_or, Some, None, Option, ⊎_elim, arith}
-use Rattle.std.specs.List.{ContainsAt as Has}
+use Rattle.std.specs.List.{Contains}
 use Rattle.command.specs.declared.Command.{Command}
 use Rattle.command.specs.declared.sets.DirectorSet.{DirectorSet}
 use Rattle.command.specs.Commands.{well_formed}
@@ -88,7 +88,7 @@ pub record Leader
   -- what it voted with its ballot in a settled slot, it has settled
   pub settled : (k : ℕ) (c : Command) → k ≤ count x → Voted x k (promise x) c → Settled x k c
   -- the commands that wait were submitted, and are well formed
-  pub waiting : (c : Command) → Has line c → S c × (well_formed c ≡ true)
+  pub waiting : (c : Command) → Contains line c → S c × (well_formed c ≡ true)
 
 abbrev pub KnowsRole : (Command → Type 0) → (ℕ → Past) → ℕ → Past → Role → Type 0
 KnowsRole S R d x following = Unit {0}

@@ -1,6 +1,6 @@
 -- What a leader proposes is safe.
-use Rattle.std.proofs.Common.{◌≡◌, ℕ, zero, suc, ◌+◌, ◌<◌, ◌≤◌, Bool, true, false, cond, not, ◌&&◌, eqb, leb, ◌⊎◌, List, [], ◌∷◌, Some, None, Option, sym, refl, ap, ◌∙◌, subst, inl, inr, ⊎_elim, arith}
-use Rattle.std.specs.List.{ContainsAt as Has}
+use Rattle.std.proofs.Common.{◌≡◌, ℕ, zero, suc, ◌+◌, ◌<◌, ◌≤◌, Bool, true, false, cond, not, ◌&&◌, eqb, leb, ◌⊎◌, List, [], ◌∷◌, Some, None, Option, sym, refl, ap, ◌∙◌, subst, inl, inr, ⊎_elim, arith, find}
+use Rattle.std.specs.List.{Contains, range_with_len}
 use Rattle.std.proofs.lemmas.Bool.{and_parts, leb-true, eqb-true, eqb-false, not-true, cases_order}
 use Rattle.command.specs.declared.Command.{Command}
 use Rattle.command.specs.declared.sets.DirectorSet.{DirectorSet}
@@ -11,7 +11,7 @@ use Rattle.command.specs.Sets.{has}
 use Rattle.journal.specs.declared.writes.Entry.{Entry}
 use Rattle.journal.specs.Meaning.{blank, open_of}
 use Rattle.journal.specs.Windows.{element_at, span}
-use Rattle.protocol.specs.Lists.{up_from, first_of, head_of}
+use Rattle.protocol.specs.Lists.{head_of}
 use Rattle.protocol.specs.Desks.{Role, following, standing, State, Desk, settled_by, promised, me}
 use Rattle.protocol.specs.Messages.{owner}
 use Rattle.protocol.specs.Rings.{chain_of, open_at, window}
@@ -28,22 +28,22 @@ use Rattle.protocol.proofs.Puts.{promised_open}
 
 -- Reading a proposal off the definitions.
 
-pub first_passes : {X : Type 0} (test : X → Bool) (xs : List X) (x : X) → first_of test xs ≡ Some x
-    → (test x ≡ true) × Has xs x
+pub first_passes : {X : Type 0} (test : X → Bool) (xs : List X) (x : X) → find test xs ≡ Some x
+    → (test x ≡ true) × Contains xs x
 first_passes test [] x e = let z : ◌≡◌ {A = ℕ} 0 1 = cc in absurd (omega arith)
 first_passes {X} test (y ∷ ys) x e = go (test y) refl e (first_passes test ys x)
   where
-    go : (t : Bool) → test y ≡ t → cond t (Some y) (first_of test ys) ≡ Some x
-        → (first_of test ys ≡ Some x → (test x ≡ true) × Has ys x) → (test x ≡ true) × Has (y ∷ ys) x
+    go : (t : Bool) → test y ≡ t → cond t (Some y) (find test ys) ≡ Some x
+        → (find test ys ≡ Some x → (test x ≡ true) × Contains ys x) → (test x ≡ true) × Contains (y ∷ ys) x
     go true h e more =
         let same : y ≡ x = cc in
-        (ap test (sym same) ∙ h, subst (Has (y ∷ ys)) same (has_first y ys))
+        (ap test (sym same) ∙ h, subst (Contains (y ∷ ys)) same (has_first y ys))
     go false h e more = let m = more e in (m.0, has_rest y ys x m.1)
 
-pub up_from_has : (k a n : ℕ) → Has (up_from a k) n → (a ≤ n) × (n < a + k)
+pub up_from_has : (k a n : ℕ) → Contains (range_with_len a k) n → (a ≤ n) × (n < a + k)
 up_from_has zero a n h = absurd (has_none n h)
 up_from_has (suc k) a n h =
-    elim (has_cons a (up_from (a + 1) k) n h) [
+    elim (has_cons a (range_with_len (a + 1) k) n h) [
       | inl same ↦ (omega arith, omega arith)
       | inr more ↦ let m = up_from_has k (a + 1) n more in let l = m.0 in let r = m.1 in (omega arith, omega arith)
     ]
@@ -180,9 +180,9 @@ module _ (f : Membership) (S : Command → Type 0) (P : ℕ → Past) (d : ℕ) 
             (k.settled j i h (subst (λ (y : Past). Voted y j (promise x) i) here v));
       }
 
-  head_has : (line : List Command) (c : Command) → head_of line ≡ Some c → Has line c
+  head_has : (line : List Command) (c : Command) → head_of line ≡ Some c → Contains line c
   head_has [] c e = let z : ◌≡◌ {A = ℕ} 0 1 = cc in absurd (omega arith)
-  head_has (a ∷ line) c e = let same : a ≡ c = cc in subst (Has (a ∷ line)) same (has_first a line)
+  head_has (a ∷ line) c e = let same : a ≡ c = cc in subst (Contains (a ∷ line)) same (has_first a line)
 
   pub fit : (r : Role) (c : Command) → KnowsRole S R d x r → enough (chain f x n) (promisers r).bits ≡ true
       → command_for n r ≡ Some c → Fit c

@@ -1,5 +1,6 @@
 -- Messages: their kinds, who owns a ballot, what each kind carries, and which messages are malformed.
-use Rattle.std.specs.Prelude.{ℕ, ◌%◌, Bool, true, false, cond, not, ◌||◌, List, replicate, Some, None, Option, ◌==◌, nat_lt}
+use Rattle.std.specs.Prelude.{◌≡◌, ℕ, ◌%◌, Bool, true, false, cond, not, ◌||◌, List, replicate, Some, None, Option, Result, MatchResult, ◌==◌, nat_lt}
+use Rattle.std.specs.List.{list_any}
 use Rattle.command.specs.declared.Command.{Command}
 use Rattle.command.specs.declared.sets.DirectorSet.{DirectorSet}
 use Rattle.command.specs.Commands.{well_formed}
@@ -7,8 +8,8 @@ use Rattle.journal.specs.declared.writes.Entry.{Entry}
 use Rattle.journal.specs.Meaning.{noop, blank}
 use Rattle.protocol.specs.declared.kinds.Kind.{Kind}
 use Rattle.protocol.specs.declared.kinds.Kind.TheVariants.{Prepare, Promise, Accept, Acked, Learn, Fetch}
+use Rattle.protocol.specs.declared.kinds.UnknownKind.{UnknownKind}
 use Rattle.protocol.specs.declared.messages.Message.{Message}
-use Rattle.protocol.specs.Lists.{any_of}
 
 -- the number of each kind
 abbrev pub kind_number : Kind → ℕ
@@ -26,6 +27,10 @@ kind_of n =
     (cond (n == 2) (Some Promise)
     (cond (n == 3) (Some Accept)
     (cond (n == 4) (Some Acked) (cond (n == 5) (Some Learn) (cond (n == 6) (Some Fetch) None)))))
+
+-- the result is the kind of this number, or an error with a number that is no kind's
+abbrev pub Decodes : ℕ → Result Kind UnknownKind → Type 0
+Decodes n r = MatchResult r (λ kind. kind_of n ≡ Some kind) (λ e. (e.0 ≡ n) × (kind_of n ≡ None))
 
 -- the director that owns a ballot
 abbrev pub owner : ℕ → ℕ
@@ -155,7 +160,7 @@ abbrev pub odd_as : Option Kind → ℕ → Message → Bool
 odd_as None hearer m = true
 odd_as (Some Prepare) hearer m = m.ballot == 0 || not (is_owner m.from m.ballot)
 odd_as (Some Promise) hearer m =
-    (m.ballot == 0) || any_of (odd_entry m.ballot) m.entries || not (is_owner hearer m.ballot)
+    (m.ballot == 0) || list_any (odd_entry m.ballot) m.entries || not (is_owner hearer m.ballot)
 odd_as (Some Accept) hearer m = m.ballot == 0 || odd_command m.command || is_owner hearer m.ballot
 odd_as (Some Acked) hearer m = m.ballot == 0 || not (is_owner hearer m.ballot)
 odd_as (Some Learn) hearer m = odd_command m.command

@@ -1,7 +1,7 @@
 -- Runs: directors with their journals and machines, called in any order, with messages lost, repeated and late, and
 -- power that fails inside calls. A message that is lost is one that is never heard.
 use Rattle.std.specs.Prelude.{◌≡◌, ℕ, ◌≤◌, Bool, true, false, cond, List, [], ◌∷◌, ◌++◌, take, Ok, Err, Result, ◌==◌}
-use Rattle.std.specs.List.{ContainsAt as Has}
+use Rattle.std.specs.List.{Contains}
 use Rattle.command.specs.Members.{founded}
 use Rattle.journal.specs.declared.writes.Write.{Write}
 use Rattle.journal.specs.Meaning.{Meaning, fresh, replay}
@@ -105,7 +105,7 @@ with_seat w d s ms = record { seats = λ e. cond (e == d) s (w.seats e); sent = 
 pub record Possible (w : World) (d : ℕ) (call : Call) : Type 0 where
   pub director : d ≤ 31
   pub reaches : (w.seats d).outstanding ≡ true → is_restart call ≡ true
-  pub comes : (m : Message) → call ≡ hear m → Has w.sent m
+  pub comes : (m : Message) → call ≡ hear m → Contains w.sent m
 
 -- one call, from one world to the next
 pub data Next (make : Make) (w : World) (d : ℕ) (call : Call) (places : ℕ) : Ending → World → Type 0 where
