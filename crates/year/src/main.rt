@@ -14,21 +14,21 @@ use std::env;
 use std::process::ExitCode;
 
 const USAGE: &str =
-    "year: usage: year | year seal LIST FILE | year read FILE | year show FILE [ledger]";
+    "usage: year | year seal LIST FILE | year read FILE | year show FILE [ledger]";
 
 fn main(rt: HostRuntime) -> ExitCode {
     console::status(run(&rt))
 }
 
 fn run(rt: &HostRuntime) -> anyhow::Result<()> {
-    let given = env::args(rt)?;
-    let words = given.as_slice().iter().skip(1).map(|word| word.as_str());
-    match words.collect::<Vec<_>>(rt.alloc())?.as_slice() {
+    let given = env::args(rt)?.collect::<Vec<_>>(rt.alloc())?;
+    let words = given.iter().skip(1).map(|word| word.as_str()).collect::<Vec<_>>(rt.alloc())?;
+    match words.as_slice() {
         [] => demo::run(rt),
         ["seal", list, file] => jobs::seal(rt, list, file),
         ["read", file] => jobs::read(rt, file),
         ["show", file] => jobs::show(rt, file, Stack::new()),
         ["show", file, "ledger"] => jobs::show(rt, file, Ledger::new()),
-        _ => console::fail(rt, &USAGE),
+        _ => console::fail(rt, jobs::PROGRAM, &USAGE),
     }
 }
