@@ -53,12 +53,13 @@ impl Broken {
 
 impl fmt::Display for Broken {
     fn fmt<W: fmt::Write>(&self, f: &mut fmt::Formatter<W>) -> fmt::Result {
-        match self {
-            Broken::Mark => write!(f, "the file does not begin as an archive"),
-            Broken::Chain => write!(f, "the founding chain is not valid"),
-            Broken::Entry { .. } => write!(f, "the entry that begins here is broken"),
-            Broken::Count { .. } => write!(f, "the count is not that of the entries"),
-        }
+        let part = match self {
+            Broken::Mark => "the file does not begin as an archive",
+            Broken::Chain => "the founding chain is not valid",
+            Broken::Entry { .. } => "the entry that begins here is broken",
+            Broken::Count { .. } => "the count is not that of the entries",
+        };
+        write!(f, "refused {} at {}: {part}", self.number(), self.offset())
     }
 }
 
