@@ -49,10 +49,9 @@ pub(crate) fn run(rt: &HostRuntime) -> anyhow::Result<()> {
 
 // Prints the file for people, then breaks the verb of its third entry and prints the refusal that opening then gives.
 fn show_and_break(rt: &HostRuntime, file: &mut Vec<u8>) -> anyhow::Result<()> {
-    let length = file.len();
     if let Ok(reader) = Reader::open(file.as_slice()) {
-        jobs::print_shown(rt, &reader, length, Stack::new())?;
-        jobs::print_shown(rt, &reader, length, Ledger::new())?;
+        jobs::print_shown(rt, &reader, Stack::new())?;
+        jobs::print_shown(rt, &reader, Ledger::new())?;
     }
     if let Some(byte) = file.get_mut(30) {
         *byte = 3;

@@ -32,17 +32,16 @@ pub(crate) fn read(rt: &HostRuntime, file: &str) -> anyhow::Result<()> {
 pub(crate) fn show<T: Table>(rt: &HostRuntime, file: &str, table: T) -> anyhow::Result<()> {
     let bytes = load(rt, file)?;
     let reader = or_fail(rt, PROGRAM, Reader::open(bytes.as_slice()))?;
-    print_shown(rt, &reader, bytes.len(), table)
+    print_shown(rt, &reader, table)
 }
 
 /// Prints the header, the entries, the chain and the table of a file that was opened.
 pub(crate) fn print_shown<T: Table>(
     rt: &HostRuntime,
     reader: &Reader,
-    length: usize,
     table: T,
 ) -> anyhow::Result<()> {
-    let text = or_fail(rt, PROGRAM, show::text(rt.alloc(), reader, length, table))?;
+    let text = or_fail(rt, PROGRAM, show::text(rt.alloc(), reader, table))?;
     rt.print(text.as_str())?;
     Ok(())
 }

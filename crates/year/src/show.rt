@@ -47,11 +47,11 @@ fn write_rows<F: Fn(u8) -> u16>(text: &mut String, name: &str, number_of: F) -> 
 pub(crate) fn text<T: Table>(
     heap: Global,
     reader: &Reader,
-    length: usize,
     mut table: T,
 ) -> Result<String, Fault> {
     let count = reader.count();
-    let mut text = format!(in heap; "archive of {count} entries, {length} bytes, founding ")?;
+    let bytes = reader.file.len();
+    let mut text = format!(in heap; "archive of {count} entries, {bytes} bytes, founding ")?;
     write_chain(&mut text, reader.members())?;
     write_entries(&mut text, reader, &mut table)?;
     table.write_numbers(&mut text)?;
