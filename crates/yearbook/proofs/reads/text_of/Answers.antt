@@ -1,4 +1,4 @@
-use Rattle.std.proofs.Common.{ℕ, List, ◌++◌, ◌∙◌, ap₂}
+use Rattle.std.proofs.Common.{ℕ, List, ◌++◌, ap, ◌∙◌, ap₂}
 use Rattle.archive.specs.Reading.{scan_all, members_of, count_at, body_of}
 use Rattle.listing.specs.Writing.{entries_text, ending, chain_line}
 use Rattle.yearbook.proofs.Listing.{told}
