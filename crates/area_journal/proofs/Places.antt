@@ -2,7 +2,8 @@
 use Rattle.std.proofs.Common.{◌≡◌, ℕ, ◌+◌, ◌%◌, ◌^◌, ◌<◌, ◌≤◌, Bool, true, ◌&&◌, eqb, ltb, leb, List, refl, ap, ◌∙◌, inl, inr, arith}
 use Rattle.std.specs.Str.{bytes_eq}
 use Rattle.std.proofs.lemmas.Slice.Eq.{bytes_eq-Decides}
-use Rattle.std.proofs.lemmas.Bool.{and_parts, and_from, eqb-true, eq-eqb, leb-true, le-leb, ltb-true, lt-ltb, or_cases, or_left, or_right}
+use Rattle.std.proofs.lemmas.Bool.{and_from, eq-eqb, or_cases, or_left, or_right}
+use Rattle.std.proofs.lemmas.Bool.Decides.{nat_tests}
 use Rattle.octets.specs.Areas.{part}
 use Rattle.octets.proofs.Numbers.{num_le}
 use Rattle.command.specs.declared.Command.{Command}
@@ -42,35 +43,10 @@ module _ (c promised p i n b : ℕ) (g : Bool) where
   tests = eqb (n % 8) i && (ltb p n && leb n (p + 8)) && leb n c && leb 1 b && leb b promised && g
 
   pub held_parts : tests ≡ true → Held c promised p i n b g
-  held_parts h =
-      let s = and_parts _ g h in
-      let t = and_parts _ (leb b promised) s.0 in
-      let u = and_parts _ (leb 1 b) t.0 in
-      let v = and_parts _ (leb n c) u.0 in
-      let w = and_parts (eqb (n % 8) i) (ltb p n && leb n (p + 8)) v.0 in
-      let x = and_parts (ltb p n) (leb n (p + 8)) w.1 in
-      record {
-        place = eqb-true (n % 8) i w.0;
-        above = ltb-true p n x.0;
-        window = leb-true n (p + 8) x.1;
-        within = leb-true n c v.1;
-        some = leb-true 1 b u.1;
-        most = leb-true b promised t.1;
-        good = s.1;
-      }
+  held_parts h = grind (arith, nat_tests)
 
   pub held_from : Held c promised p i n b g → tests ≡ true
-  held_from h =
-      and_from _ g
-      (and_from _ (leb b promised)
-      (and_from _ (leb 1 b)
-      (and_from _ (leb n c)
-      (and_from (eqb (n % 8) i) (ltb p n && leb n (p + 8)) (eq-eqb (n % 8) i h.place)
-      (and_from (ltb p n) (leb n (p + 8)) (lt-ltb p n h.above) (le-leb n (p + 8) h.window)))
-      (le-leb n c h.within))
-      (le-leb 1 b h.some))
-      (le-leb b promised h.most))
-      h.good
+  held_from h = grind (arith, nat_tests)
 
 -- a place stays in order under a higher promise, and with more settled slots where its own is not one of them
 pub place_kept : (c l m p q i : ℕ) (bs : List ℕ) → place_good c l p i bs ≡ true → l ≤ m → p ≤ q
