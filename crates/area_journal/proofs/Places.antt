@@ -24,9 +24,7 @@ command_read c s = λ i.
     }
 
 pub good_record_is : (c : Command) → Sized c → well_formed c ≡ true → record_good (command_bytes c) ≡ true
-good_record_is c s h =
-    and_from (eqb 0 0) (well_formed (command_of (command_bytes c))) (eq-eqb 0 0 refl)
-    (ap well_formed (command_read c s) ∙ h)
+good_record_is c s h = grind (arith, nat_tests, command_read c s)
 
 -- an entry that may stand in place i, by its slot, its ballot and whether its record is in order
 pub record Held (c promised p i n b : ℕ) (g : Bool) : Type 0 where
@@ -51,33 +49,11 @@ module _ (c promised p i n b : ℕ) (g : Bool) where
 -- a place stays in order under a higher promise, and with more settled slots where its own is not one of them
 pub place_kept : (c l m p q i : ℕ) (bs : List ℕ) → place_good c l p i bs ≡ true → l ≤ m → p ≤ q
     → ((n : ℕ) → p < n → n % 8 ≡ i → q < n) → place_good c m q i bs ≡ true
-place_kept c l m p q i bs h less more later =
-    elim (or_cases (bytes_eq bs blank_bytes) (is_held c l p i bs) h) [
-      | inl e ↦ or_left (bytes_eq bs blank_bytes) (is_held c m q i bs) e
-      | inr e ↦
-          let n = slot_of bs in
-          let b = (entry_of bs).ballot in
-          let g = record_good (part 8 record_bytes bs) in
-          let p = held_parts c l p i n b g e in
-          let above = later n p.above p.place in
-          or_right (bytes_eq bs blank_bytes) (is_held c m q i bs)
-          (held_from c m q i n b g
-          (record {
-            place = p.place;
-            above = above;
-            window = omega arith;
-            within = p.within;
-            some = p.some;
-            most = omega arith;
-            good = p.good;
-          }))
-    ]
+place_kept c l m p q i bs h less more later = grind (arith, nat_tests, later (slot_of bs))
 
 -- a blank place is in order
 pub blank_good : (c l p i : ℕ) → place_good c l p i blank_bytes ≡ true
-blank_good c l p i =
-    or_left (bytes_eq blank_bytes blank_bytes) (is_held c l p i blank_bytes)
-    ((bytes_eq-Decides blank_bytes blank_bytes).1 refl)
+blank_good c l p i = refl
 
 -- an entry that was written, read again
 module _ (n b : ℕ) (d : Command) (slot : n < 256 ^ 4) (ballot : b < 256 ^ 4) (sized : Sized d) where
@@ -89,16 +65,6 @@ module _ (n b : ℕ) (d : Command) (slot : n < 256 ^ 4) (ballot : b < 256 ^ 4) (
 
   pub entry_good : (c l p i : ℕ) → Held c l p i n b (well_formed d) → place_good c l p i (entry_bytes n b d) ≡ true
   entry_good c l p i h =
-      let bs = entry_bytes n b d in
-      let e : (entry_of bs).ballot ≡ b = num_le 4 b ballot in
-      or_right (bytes_eq bs blank_bytes) (is_held c l p i bs)
-      (held_from c l p i (slot_of bs) (entry_of bs).ballot (record_good (command_bytes d))
-      (record {
-        place = ap (λ (k : ℕ). k % 8) slot_read ∙ h.place;
-        above = let s = slot_read in let a = h.above in omega arith;
-        window = let s = slot_read in let a = h.window in omega arith;
-        within = let s = slot_read in let a = h.within in omega arith;
-        some = let a = h.some in omega arith;
-        most = let a = h.most in omega arith;
-        good = good_record_is d sized h.good;
-      }))
+      let s = slot_read in
+      let e = num_le 4 b ballot in
+      grind (arith, nat_tests, good_record_is d sized h.good)
