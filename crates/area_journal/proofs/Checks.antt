@@ -1,9 +1,10 @@
 -- The checks of opening, one after another.
-use Rattle.std.specs.Prelude.{◌≡◌, ℕ, zero, suc, ◌+◌, ◌<◌, ◌≤◌, Bool, true, false, not, cond, ◌⊎◌, List, length, Some, None, Option, nat_le, nat_lt, refl}
+use Rattle.std.specs.Prelude.{◌≡◌, ℕ, zero, suc, ◌+◌, ◌<◌, ◌≤◌, Bool, true, false, not, cond, List, length, Some, None, Option, refl}
 use Rattle.std.proofs.Common.{sym, ◌∙◌, inl, inr}
 use Rattle.std.proofs.Math.Path.{ap}
 use native.Mathlib.Omega.{arith}
-use Rattle.std.proofs.lemmas.Bool.{not_from_true, cond-true, cond-false, lt-ltb, le-ltb, le-leb, lt-leb, cases_lt}
+use Rattle.std.proofs.lemmas.Bool.{cases_lt}
+use Rattle.std.proofs.lemmas.Bool.Decides.{nat_tests}
 use Rattle.area_journal.specs.declared.faults.OpenFault.{OpenFault}
 use Rattle.area_journal.specs.declared.faults.OpenFault.TheVariants.{NoRecord, Broken}
 use Rattle.area_journal.specs.Layout.{count_at, place_at, record_at}
@@ -21,65 +22,54 @@ all_good f (suc k) i e j l h = go (f i) refl e (λ e m. all_good f k (i + 1) e j
     go : (b : Bool) → f i ≡ b → cond (not b) (Some i) (first_bad f (i + 1) k) ≡ None
         → (first_bad f (i + 1) k ≡ None → i < j → f j ≡ true)
         → f j ≡ true
-    go false q e r = absurd (some_none e)
+    go false q e r = cc
     go true q e r =
         elim (cases_lt i j) [ inl m ↦ r e m | inr m ↦ let s : j ≡ i = omega arith in ap f s ∙ q ]
 
 pub good_all : (f : ℕ → Bool) (k i : ℕ) → ((j : ℕ) → i ≤ j → j < i + k → f j ≡ true) → first_bad f i k ≡ None
 good_all f zero i h = refl
 good_all f (suc k) i h =
-    cond-false (not (f i)) (Some i) (first_bad f (i + 1) k) (not_from_true (f i) (h i (omega arith) (omega arith)))
-    ∙ good_all f k (i + 1) (λ j l m. h j (omega arith) (omega arith))
+    rw (h i (omega arith) (omega arith)) (good_all f k (i + 1) (λ j l m. h j (omega arith) (omega arith)))
 
 module _ (area : List ℕ) where
   pub fault_short : length area < shortest → fault area ≡ Some NoRecord
   unfolding fault
-  fault_short l = cond-true (nat_lt (length area) shortest) (Some NoRecord) _ (lt-ltb (length area) shortest l)
-
-  -- what the checks of the records find
-  abbrev last : Option OpenFault
-  last = or_later record_at (first_bad (record_is_good area) 0 (count_of area)) None
+  fault_short l = grind (arith, nat_tests)
 
   pub fault_count : shortest ≤ length area → capacity_of area < count_of area → fault area ≡ Some (Broken count_at)
   unfolding fault
-  fault_count l h =
-      cond-false (nat_lt (length area) shortest) (Some NoRecord) _ (le-ltb (length area) shortest l)
-      ∙ cond-false (nat_le (count_of area) (capacity_of area)) _ (Some (Broken count_at))
-      (lt-leb (count_of area) (capacity_of area) h)
+  fault_count l h = grind (arith, nat_tests)
 
   module _ (long : shortest ≤ length area) (held : count_of area ≤ capacity_of area) where
-    pub fault_later : fault area ≡ or_later place_at (first_bad (place_is_good area) 0 8) last
+    pub fault_later : fault area
+        ≡ or_later place_at (first_bad (place_is_good area) 0 8)
+        (or_later record_at (first_bad (record_is_good area) 0 (count_of area)) None)
     unfolding fault
-    fault_later =
-        cond-false (nat_lt (length area) shortest) (Some NoRecord) _ (le-ltb (length area) shortest long)
-        ∙ cond-true (nat_le (count_of area) (capacity_of area)) _ (Some (Broken count_at))
-        (le-leb (count_of area) (capacity_of area) held)
+    fault_later = grind (arith, nat_tests)
 
     pub fault_place : (i : ℕ) → Some i ≡ first_bad (place_is_good area) 0 8 → fault area ≡ Some (Broken (place_at i))
-    fault_place i e = fault_later ∙ ap (λ o. or_later place_at o last) (sym e)
+    fault_place i e = rw (fault_later, ← e)
 
     pub fault_record : (i : ℕ) → None ≡ first_bad (place_is_good area) 0 8
         → Some i ≡ first_bad (record_is_good area) 0 (count_of area)
         → fault area ≡ Some (Broken (record_at i))
-    fault_record i e h =
-        fault_later ∙ ap (λ o. or_later place_at o last) (sym e) ∙ ap (λ o. or_later record_at o None) (sym h)
+    fault_record i e h = rw (fault_later, ← e, ← h)
 
     pub fault_none : None ≡ first_bad (place_is_good area) 0 8 → None ≡ first_bad (record_is_good area) 0 (count_of area)
         → fault area ≡ None
-    fault_none e h =
-        fault_later ∙ ap (λ o. or_later place_at o last) (sym e) ∙ ap (λ o. or_later record_at o None) (sym h)
+    fault_none e h = rw (fault_later, ← e, ← h)
 
   pub none_sound : fault area ≡ None → is_sound area ≡ true
   unfolding is_sound
-  none_sound e = ap is_none e
-
-  none_is : (o : Option OpenFault) → is_none o ≡ true → o ≡ None
-  none_is None e = refl
-  none_is (Some x) e = absurd (mathlib.Core.Bool.false≢true e)
+  none_sound e = rw e
 
   pub sound_none : is_sound area ≡ true → fault area ≡ None
   unfolding is_sound
   sound_none e = none_is (fault area) e
+    where
+      none_is : (o : Option OpenFault) → is_none o ≡ true → o ≡ None
+      none_is None e = refl
+      none_is (Some x) e = cc
 
 -- what an area that opening accepts keeps to
 pub record Sound (area : List ℕ) : Type 0 where
@@ -97,27 +87,20 @@ sound_from area s =
 -- a bad part is a fault
 or_none : (at : ℕ → ℕ) (o : Option ℕ) (x : Option OpenFault) → or_later at o x ≡ None → (o ≡ None) × (x ≡ None)
 or_none at None x e = (refl, e)
-or_none at (Some i) x e = absurd (some_none e)
+or_none at (Some i) x e = cc
 
 pub sound_parts : (area : List ℕ) → is_sound area ≡ true → Sound area
-sound_parts area e = go (cases_lt (length area) shortest) (cases_lt (capacity_of area) (count_of area))
-  where
-    none : fault area ≡ None
-    none = sound_none area e
-
-    go : (length area < shortest) ⊎ (shortest ≤ length area)
-        → (capacity_of area < count_of area) ⊎ (count_of area ≤ capacity_of area)
-        → Sound area
-    go (inl l) h = absurd (some_none (sym (fault_short area l) ∙ none))
-    go (inr l) (inl h) = absurd (some_none (sym (fault_count area l h) ∙ none))
-    go (inr l) (inr h) =
-        let p = or_none place_at (first_bad (place_is_good area) 0 8)
-        (or_later record_at (first_bad (record_is_good area) 0 (count_of area)) None)
-        (sym (fault_later area l h) ∙ none) in
-        let q = or_none record_at (first_bad (record_is_good area) 0 (count_of area)) None p.1 in
-        record {
-          long = l;
-          held = h;
-          places = λ i m. all_good (place_is_good area) 8 0 p.0 i (omega arith) (omega arith);
-          records = λ i m. all_good (record_is_good area) (count_of area) 0 q.0 i (omega arith) (omega arith);
-        }
+sound_parts area e =
+    let none = sound_none area e in
+    let long : shortest ≤ length area = grind (arith, fault_short area) in
+    let held : count_of area ≤ capacity_of area = grind (arith, fault_count area long) in
+    let p = or_none place_at (first_bad (place_is_good area) 0 8)
+    (or_later record_at (first_bad (record_is_good area) 0 (count_of area)) None)
+    (sym (fault_later area long held) ∙ none) in
+    let q = or_none record_at (first_bad (record_is_good area) 0 (count_of area)) None p.1 in
+    record {
+      long = long;
+      held = held;
+      places = λ i m. all_good (place_is_good area) 8 0 p.0 i (omega arith) (omega arith);
+      records = λ i m. all_good (record_is_good area) (count_of area) 0 q.0 i (omega arith) (omega arith);
+    }

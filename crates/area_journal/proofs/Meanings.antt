@@ -3,12 +3,12 @@ use Rattle.std.proofs.Common.{◌≡◌, ℕ, ◌+◌, ◌-◌, ◌/◌, ◌<◌
 use Rattle.std.specs.List.{range_with_len}
 use Rattle.std.proofs.lemmas.List.FromFn.{length-map-range_with_len, get_or-map-range_with_len, map-range_with_len_more, fill_by_all}
 use Rattle.std.proofs.lemmas.List.{length-set, get_or-set_same, get_or-set_other}
-use Rattle.std.proofs.lemmas.Bool.{cases_eq, cond-true, cond-false, and_parts, ltb-true}
+use Rattle.std.proofs.lemmas.Bool.{cases_eq, cond-true, cond-false}
 use Rattle.command.specs.declared.Command.{Command}
-use Rattle.command.specs.Commands.{well_formed}
 use Rattle.journal.specs.declared.writes.Write.{Write}
 use Rattle.journal.specs.declared.writes.Write.TheVariants.{Settle}
 use Rattle.journal.specs.Meaning.{taken, after, step, settled_count}
+use Rattle.std.proofs.lemmas.Bool.Decides.{nat_tests}
 use Rattle.octets.specs.Areas.{over}
 use Rattle.octets.specs.Numbers.{le}
 use Rattle.journal.specs.Windows.{place_of}
@@ -54,10 +54,7 @@ count_is area = length-map-range_with_len (command_in area) 0 (count_of area)
 pub less_settle : (area : List ℕ) (c : Command) → taken (Settle c) (meaning_of area) ≡ true
     → count_of area < capacity_of area
 unfolding taken meaning_of
-less_settle area c t =
-    let count = count_is area in
-    let less = ltb-true _ (capacity_of area) (and_parts _ (well_formed c) t).0 in
-    omega arith
+less_settle area c t = grind (arith, nat_tests, count_is area)
 
 -- the three parts of a settle, written one after another
 pub written_settle : (w : Write) (area once twice exit : List ℕ) (p i k : ℕ) (d : Command) → w ≡ Settle d

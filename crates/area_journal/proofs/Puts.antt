@@ -1,14 +1,15 @@
 -- What a put that is taken leaves.
-use Rattle.std.proofs.Common.{◌≡◌, ℕ, ◌+◌, ◌%◌, ◌^◌, ◌<◌, ◌≤◌, true, ◌&&◌, eqb, ltb, leb, List, map, length, sym, refl, ap, ◌∙◌, subst, inl, inr, arith}
+use Rattle.std.proofs.Common.{◌≡◌, ℕ, ◌+◌, ◌%◌, ◌^◌, ◌<◌, ◌≤◌, true, List, map, length, sym, refl, ap, ◌∙◌, subst, inl, inr, arith}
 use Rattle.std.specs.List.{range_with_len}
-use Rattle.std.proofs.lemmas.Bool.{cases_eq, cases_lt, and_parts, eqb-true, leb-true, ltb-true}
+use Rattle.std.proofs.lemmas.Bool.{cases_eq, cases_lt}
+use Rattle.std.proofs.lemmas.Bool.Decides.{nat_tests}
 use Rattle.octets.specs.Areas.{part, over}
 use Rattle.octets.specs.Numbers.{num}
 use Rattle.octets.proofs.Areas.{length_over}
 use Rattle.command.specs.declared.Command.{Command}
 use Rattle.command.specs.Commands.{well_formed, Sized}
 use Rattle.journal.specs.declared.writes.Write.TheVariants.{Put}
-use Rattle.journal.specs.Meaning.{taken, after, settled_count}
+use Rattle.journal.specs.Meaning.{taken, after}
 use Rattle.area_journal.specs.Layout.{place_at, record_at, place_bytes, record_bytes, entry_bytes, command_of, entry_of}
 use Rattle.area_journal.specs.Reading.{capacity_of, promised_of, count_of, place_in, record_in, command_in, entry_in}
 use Rattle.area_journal.specs.Reading.{meaning_of}
@@ -107,26 +108,7 @@ module _ (area : List ℕ) (s : Sound area) (n b : ℕ) (d : Command) (slot : n 
 held : (area : List ℕ) (n b : ℕ) (d : Command) → taken (Put n b d) (meaning_of area) ≡ true
     → Held (capacity_of area) (promised_of area) (count_of area) (n % 8) n b (well_formed d)
 unfolding taken meaning_of
-held area n b d h =
-    let p = settled_count (meaning_of area) in
-    let count = count_is area in
-    let s = and_parts _ (well_formed d) h in
-    let t = and_parts _ (leb n (capacity_of area)) s.0 in
-    let u = and_parts _ (ltb p n && leb n (p + 8)) t.0 in
-    let v = and_parts (eqb b (promised_of area)) (leb 1 b) u.0 in
-    let w = and_parts (ltb p n) (leb n (p + 8)) u.1 in
-    let same = eqb-true b (promised_of area) v.0 in
-    let above = ltb-true p n w.0 in
-    let window = leb-true n (p + 8) w.1 in
-    record {
-      place = refl;
-      above = omega arith;
-      window = omega arith;
-      within = leb-true n (capacity_of area) t.1;
-      some = leb-true 1 b v.1;
-      most = omega arith;
-      good = s.1;
-    }
+held area n b d h = grind (arith, nat_tests, count_is area)
 
 pub left_put : (area : List ℕ) (n b : ℕ) (d : Command) → Sound area → n < 256 ^ 4 → b < 256 ^ 4 → Sized d
     → taken (Put n b d) (meaning_of area) ≡ true

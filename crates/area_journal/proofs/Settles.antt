@@ -1,8 +1,9 @@
 -- What a settle that is taken leaves.
-use Rattle.std.proofs.Common.{◌≡◌, ℕ, ◌+◌, ◌%◌, ◌^◌, ◌<◌, ◌≤◌, true, ltb, List, map, length, set, sym, refl, ap, ◌∙◌, inl, inr, arith}
+use Rattle.std.proofs.Common.{◌≡◌, ℕ, ◌+◌, ◌%◌, ◌^◌, ◌<◌, ◌≤◌, true, List, map, length, set, sym, refl, ap, ◌∙◌, inl, inr, arith}
 use Rattle.std.specs.List.{range_with_len}
 use Rattle.std.proofs.lemmas.List.FromFn.{length-map-range_with_len}
-use Rattle.std.proofs.lemmas.Bool.{cases_eq, cases_lt, and_parts, ltb-true}
+use Rattle.std.proofs.lemmas.Bool.{cases_eq, cases_lt}
+use Rattle.std.proofs.lemmas.Bool.Decides.{nat_tests}
 use Rattle.octets.specs.Areas.{over}
 use Rattle.octets.specs.Numbers.{le, num}
 use Rattle.octets.proofs.Areas.{length_over}
@@ -10,7 +11,7 @@ use Rattle.octets.proofs.Numbers.{num_le}
 use Rattle.command.specs.declared.Command.{Command}
 use Rattle.command.specs.Commands.{well_formed, Sized}
 use Rattle.journal.specs.declared.writes.Write.TheVariants.{Settle}
-use Rattle.journal.specs.Meaning.{taken, after, settled_count, blank}
+use Rattle.journal.specs.Meaning.{taken, after, blank}
 use Rattle.area_journal.specs.Layout.{place_at, record_at, place_bytes, record_bytes, command_bytes, blank_bytes}
 use Rattle.area_journal.specs.Layout.{command_of, entry_of}
 use Rattle.area_journal.specs.Reading.{capacity_of, promised_of, count_of, place_in, record_in, command_in, entry_in}
@@ -178,8 +179,5 @@ pub left_settle : (area : List ℕ) (d : Command) → Sound area → Sized d
     → Left (written (Settle d) area) (after (Settle d) (meaning_of area))
 unfolding taken meaning_of
 left_settle area d sound sized t =
-    let p = settled_count (meaning_of area) in
-    let count = count_is area in
-    let h = and_parts (ltb p (capacity_of area)) (well_formed d) t in
-    let less = ltb-true p (capacity_of area) h.0 in
-    settled area sound d sized h.1 (omega arith)
+    let h : (well_formed d ≡ true) × (count_of area < capacity_of area) = grind (arith, nat_tests, count_is area) in
+    settled area sound d sized h.0 h.1
