@@ -1,5 +1,5 @@
 -- Every call that is not refused keeps what is known.
-use Rattle.std.proofs.Common.{◌≡◌, ℕ, ◌+◌, ◌≤◌, Bool, true, false, cond, List, [], ◌∷◌, Some, None, Ok, Err, Option, Result, sym, refl, ap, ◌∙◌, subst, ⊎_elim, arith}
+use Rattle.std.proofs.Common.{◌≡◌, ℕ, ◌+◌, ◌≤◌, Bool, true, false, cond, List, [], ◌∷◌, ◌++◌, Some, None, Ok, Err, Option, Result, sym, refl, ap, ◌∙◌, subst, ⊎_elim, arith}
 use Rattle.std.specs.List.{All}
 use Rattle.std.proofs.lemmas.List.Elements.{All-nil, All-cons, Contains-push_cases}
 use Rattle.std.proofs.lemmas.Bool.{not-false}
@@ -18,8 +18,8 @@ use Rattle.protocol.specs.Runs.{writes_of}
 use Rattle.protocol.proofs.Votes.{Past, count}
 use Rattle.protocol.proofs.Core.{Core}
 use Rattle.protocol.proofs.Writing.{upd}
-use Rattle.protocol.proofs.Knowing.{Fact, KnowsRole, Knows}
-use Rattle.protocol.proofs.Going.{desk, Good, Went, went_silent, went_sent, Throughout}
+use Rattle.protocol.proofs.Knowing.{leader_waits, Fact, KnowsRole, Knows}
+use Rattle.protocol.proofs.Going.{good_role, desk, Good, Went, went_silent, went_sent, Throughout}
 use Rattle.protocol.proofs.Stands.{went_stand, good_cleared}
 use Rattle.protocol.proofs.Pumps.{went_pump}
 use Rattle.protocol.proofs.Tells.{went_prod}
@@ -33,7 +33,7 @@ none_holds (r ∷ rs) e = go r.0 refl e (none_holds rs)
     go : (t : Bool) → r.0 ≡ t → cond t (Some r.1) (topmost rs) ≡ None
         → (topmost rs ≡ None → All (λ r. r.0 ≡ false) rs)
         → All (λ r. r.0 ≡ false) (r ∷ rs)
-    go true h e more = let z : ◌≡◌ {A = ℕ} 0 1 = cc in absurd (omega arith)
+    go true h e more = absurd (cc)
     go false h e more = All-cons (λ r. r.0 ≡ false) r rs h (more e)
 
 -- an accepted call had no reason to be refused, and did what it should
@@ -49,42 +49,24 @@ accepted_is call places d o e = go (topmost (reasons call places d)) refl e
     go : (r : Option Refusal) → topmost (reasons call places d) ≡ r → unless r (done call d) ≡ Ok o
         → Accepted call places d o
     go None h e = record { sound = none_holds (reasons call places d) h; is = cc }
-    go (Some r) h e = let z : ◌≡◌ {A = ℕ} 0 1 = cc in absurd (omega arith)
+    go (Some r) h e = absurd (cc)
 
 module _ (f : Membership) (S : Command → Type 0) (P : ℕ → Past) (d : ℕ) (x : Past) (s : State) where
   role_submitted : (c : Command) → S c → well_formed c ≡ true → (r : Role) → KnowsRole S (upd P d x) d x r
       → KnowsRole S (upd P d x) d x (lengthened c r)
   role_submitted c known formed following k = tt
   role_submitted c known formed (standing q line reports) k =
-      record {
-        own = k.own;
-        some = k.some;
-        eight = k.eight;
-        promisers = k.promisers;
-        told = k.told;
-        voted = k.voted;
-        settled = k.settled;
-        waiting = λ i h.
-            ⊎_elim (k.waiting i) (λ e. (subst S e known, ap well_formed (sym e) ∙ formed)) (Contains-push_cases line c i h);
-      }
+      leader_waits S (upd P d x) d x q line (line ++ (c ∷ [])) reports k
+      (λ i h.
+      ⊎_elim (k.waiting i) (λ e. (subst S e known, ap well_formed (sym e) ∙ formed)) (Contains-push_cases line c i h))
 
   went_submit : Good f S P d x s → (c : Command) → S c → well_formed c ≡ true
       → Went f S P d x (submitted c (desk x s))
   unfolding submitted become
   went_submit good c known formed =
-      let k = good.knows in
-      went_silent f S P d x (with_role (lengthened c s.role) s)
-      (record {
-        core = good.core;
-        knows =
-            record {
-              number = k.number;
-              founding = k.founding;
-              eight = k.eight;
-              acks = k.acks;
-              role = role_submitted c known formed s.role k.role;
-            };
-      })
+      let r : Role = lengthened c s.role in
+      went_silent f S P d x (with_role r s)
+      (good_role f S P d x s r good (role_submitted c known formed s.role good.knows.role))
 
   went_fetch : Good f S P d x s → (peer : ℕ) → Went f S P d x (fetched peer (desk x s))
   unfolding fetched send

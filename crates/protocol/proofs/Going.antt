@@ -7,14 +7,14 @@ use Rattle.command.specs.Members.{Membership}
 use Rattle.journal.specs.declared.writes.Write.{Write}
 use Rattle.journal.specs.Meaning.{Meaning, taken, wrote, replay}
 use Rattle.protocol.specs.declared.messages.Message.{Message}
-use Rattle.protocol.specs.Desks.{State, Desk, Outcome, Step, left, both, go_on, quiet, write, choose}
-use Rattle.protocol.specs.Desks.{repeat, ◌▸◌}
+use Rattle.protocol.specs.Desks.{Role, State, Desk, Outcome, Step, left, both, go_on, quiet, write, choose}
+use Rattle.protocol.specs.Desks.{with_role, repeat, ◌▸◌}
 use Rattle.protocol.proofs.Votes.{Past}
 use Rattle.protocol.proofs.Growing.{Grew, grew_same, grew_trans, grew_one, plus, plus_one, plus_none, plus_append}
 use Rattle.protocol.proofs.Growing.{replay_append}
 use Rattle.protocol.proofs.Core.{Core}
 use Rattle.protocol.proofs.Writing.{upd, Grows, upd_grows}
-use Rattle.protocol.proofs.Knowing.{Fact, fact_grows, Knows}
+use Rattle.protocol.proofs.Knowing.{Fact, fact_grows, KnowsRole, Knows}
 
 -- the desk of a director with this past and memory
 abbrev pub desk : Past → State → Desk
@@ -92,6 +92,17 @@ module _ (f : Membership) (S : Command → Type 0) (P : ℕ → Past) (d : ℕ) 
   pub record Good (x : Past) (s : State) : Type 0 where
     pub core : Core f S (upd P d x)
     pub knows : Knows f S (upd P d x) d x s
+
+  -- the same with another role that fits
+  pub good_role : (x : Past) (s : State) (r : Role) → Good x s → KnowsRole S (upd P d x) d x r
+      → Good x (with_role r s)
+  good_role x s r g role =
+      let k = g.knows in
+      record {
+        core = g.core;
+        knows =
+            record { number = k.number; founding = k.founding; eight = k.eight; acks = k.acks; role = role };
+      }
 
   -- what it did kept the core, it knows what it should, and what it sent is true
   pub record Went (x : Past) (o : Outcome) : Type 0 where

@@ -106,7 +106,7 @@ unfolding taken after
 grew_by (Promise b) x t =
     record {
       votes = λ n k c v. Contains-append_left x.history (Promise b ∷ []) (Put n k c) v;
-      newer = λ n k c v. ⊎_elim (λ h. inl h) (λ e. let z : ◌≡◌ {A = ℕ} 0 1 = cc in absurd (omega arith))
+      newer = λ n k c v. ⊎_elim (λ h. inl h) (λ e. absurd (cc))
           (Contains-push_cases x.history (Promise b) (Put n k c) v);
       promised = leb-true (promise x) b t;
       settled = begins_same x.journal.settled;
@@ -125,7 +125,7 @@ grew_by (Put n b c) x t =
 grew_by (Settle c) x t =
     record {
       votes = λ n k f v. Contains-append_left x.history (Settle c ∷ []) (Put n k f) v;
-      newer = λ n k f v. ⊎_elim (λ h. inl h) (λ e. let z : ◌≡◌ {A = ℕ} 0 1 = cc in absurd (omega arith))
+      newer = λ n k f v. ⊎_elim (λ h. inl h) (λ e. absurd (cc))
           (Contains-push_cases x.history (Settle c) (Put n k f) v);
       promised = omega arith;
       settled = record { rest = c ∷ []; whole = refl };

@@ -94,6 +94,22 @@ abbrev pub KnowsRole : (Command → Type 0) → (ℕ → Past) → ℕ → Past 
 KnowsRole S R d x following = Unit {0}
 KnowsRole S R d x (standing q line reports) = Leader S R d x q line reports
 
+-- a leader with another line, in which only such commands wait
+pub leader_waits : (S : Command → Type 0) (R : ℕ → Past) (d : ℕ) (x : Past) (q : DirectorSet) (line lines : List Command)
+    (reports : List Entry) → Leader S R d x q line reports
+    → ((c : Command) → Contains lines c → S c × (well_formed c ≡ true)) → Leader S R d x q lines reports
+leader_waits S R d x q line lines reports k waiting =
+    record {
+      own = k.own;
+      some = k.some;
+      eight = k.eight;
+      promisers = k.promisers;
+      told = k.told;
+      voted = k.voted;
+      settled = k.settled;
+      waiting = waiting;
+    }
+
 pub record Knows (f : Membership) (S : Command → Type 0) (R : ℕ → Past) (d : ℕ) (x : Past) (s : State) : Type 0 where
   pub number : s.number ≡ d
   pub founding : s.founding ≡ f

@@ -1,5 +1,5 @@
 -- Eight turns are enough for each loop.
-use Rattle.std.proofs.Common.{◌≡◌, ℕ, ◌+◌, ◌%◌, ◌<◌, ◌≤◌, Bool, true, false, cond, not, eqb, List, [], ◌∷◌, ◌++◌, length, drop, Some, None, count_by, Option, sym, refl, ap, ◌∙◌, subst, arith, is_some}
+use Rattle.std.proofs.Common.{◌≡◌, ℕ, ◌+◌, ◌%◌, ◌<◌, ◌≤◌, Bool, true, false, cond, not, eqb, List, [], ◌∷◌, ◌++◌, length, drop, Some, None, count_by, Option, sym, refl, ap, ◌∙◌, subst, arith, is_some, slice_get}
 use Rattle.std.specs.List.{Contains, All}
 use Rattle.std.proofs.lemmas.List.Elements.{All-drop, All-weaker, All-contains_itself}
 use Rattle.std.proofs.lemmas.List.Sums.{count_by-le-length}
@@ -15,7 +15,6 @@ use Rattle.journal.specs.Meaning.{Meaning, blank, settled_count, open_of, taken,
 use Rattle.protocol.specs.Desks.{State, Desk, Outcome, left, both, go_on, write, become, settled_by}
 use Rattle.protocol.specs.Desks.{Role, following, standing, promised, itself, with_role, with_ack, send}
 use Rattle.protocol.specs.Rings.{pass_on}
-use Rattle.protocol.specs.Lists.{head_of}
 use Rattle.protocol.specs.Calls.{is_unreported, command_for, fed, Proposal, proposal, propose, propose_any, propose_all}
 use Rattle.protocol.specs.Loops.{Sound, SoundRole, LoopsEnd}
 use Rattle.protocol.proofs.Votes.{Past, Voted, Lawful, promise, count, vote_bounds, open_near, lawful_eight}
@@ -42,16 +41,16 @@ record LeadsOn (b : ℕ) (d : Desk) : Type 0 where
 
 command_formed : (d : Desk) (n : ℕ) (c : Command) (r : Role) → settled_by d < n → n ≤ settled_by d + 8 → SoundRole d r
     → command_for n r ≡ Some c → (1 ≤ promised d) × (well_formed c ≡ true)
-command_formed d n c following above near s e = let z : ◌≡◌ {A = ℕ} 0 1 = cc in absurd (omega arith)
+command_formed d n c following above near s e = absurd (cc)
 command_formed d n c (standing q line reports) above near s e = go (is_unreported n reports) refl e
   where
-    head : (line : List Command) → All (λ c. well_formed c ≡ true) line → head_of line ≡ Some c
+    head : (line : List Command) → All (λ c. well_formed c ≡ true) line → slice_get line 0 ≡ Some c
         → well_formed c ≡ true
-    head [] a e = let z : ◌≡◌ {A = ℕ} 0 1 = cc in absurd (omega arith)
+    head [] a e = absurd (cc)
     head (i ∷ line) a e = let same : i ≡ c = cc in ap well_formed (sym same) ∙ a 0 i (omega arith)
 
     go : (t : Bool) → is_unreported n reports ≡ t
-        → cond t (head_of line) (Some (element_at blank reports n).command) ≡ Some c
+        → cond t (slice_get line 0) (Some (element_at blank reports n).command) ≡ Some c
         → (1 ≤ promised d) × (well_formed c ≡ true)
     go true u e = (s.0, head line s.1 e)
     go false u e =

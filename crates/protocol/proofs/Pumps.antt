@@ -23,7 +23,7 @@ use Rattle.protocol.proofs.Votes.{Past, Voted, VotedAt, promise, count, has_rest
 use Rattle.protocol.proofs.Growing.{one_is, plus_one, written, chain}
 use Rattle.protocol.proofs.Core.{SafeAt}
 use Rattle.protocol.proofs.Writing.{upd, upd_here, lawful_here, core_propose}
-use Rattle.protocol.proofs.Knowing.{AllVoted, Told, told_grows, KnowsRole, Knows}
+use Rattle.protocol.proofs.Knowing.{leader_waits, AllVoted, Told, told_grows, KnowsRole, Knows}
 use Rattle.protocol.proofs.Going.{desk, Good, Went, write_is, went_one, went_after, went_then, went_repeat, went_quiet}
 use Rattle.protocol.proofs.Sets.{has_alone}
 use Rattle.protocol.proofs.Puts.{promised_open, knows_put, put_grows, put_vote}
@@ -75,16 +75,7 @@ fed_knows : (S : Command → Type 0) (R : ℕ → Past) (d : ℕ) (x : Past) (n 
     → KnowsRole S R d x (fed n r)
 fed_knows S R d x n following k = tt
 fed_knows S R d x n (standing q line reports) k =
-    record {
-      own = k.own;
-      some = k.some;
-      eight = k.eight;
-      promisers = k.promisers;
-      told = k.told;
-      voted = k.voted;
-      settled = k.settled;
-      waiting = λ c h. k.waiting c (fewer_wait (is_unreported n reports) line c h);
-    }
+    leader_waits S R d x q line _ reports k (λ c h. k.waiting c (fewer_wait (is_unreported n reports) line c h))
 
 module _ (f : Membership) (S : Command → Type 0) (P : ℕ → Past) (d : ℕ) (x : Past) (s : State)
     (good : Good f S P d x s) (n : ℕ) (c : Command) (is : Proposes (desk x s) n c) where

@@ -1,5 +1,5 @@
 -- What a call that can be made does to a seat, whole or cut.
-use Rattle.std.proofs.Common.{◌≡◌, ℕ, Bool, true, false, cond, List, [], ◌++◌, take, Some, None, Ok, sym, refl, ap, ◌∙◌, subst, append-nil, arith}
+use Rattle.std.proofs.Common.{◌≡◌, ℕ, Bool, true, false, cond, List, [], ◌++◌, take, Some, None, Ok, sym, refl, ap, ◌∙◌, subst, append-nil}
 use Rattle.std.proofs.lemmas.List.Elements.{All-contains}
 use Rattle.std.proofs.lemmas.Bool.{both_ways}
 use Rattle.command.specs.declared.Command.{Command}
@@ -128,9 +128,6 @@ module _ (k : Cluster) (es : List Event) (w : World) (i : Inv k es w) (d : ℕ) 
           facts = λ m h. All-contains (Fact (upd (pasts w) d (plus x o.writes))) o.messages m went.facts h;
         }
 
-differ : ◌≡◌ {A = ℕ} 0 1 → {X : Type 0} → X
-differ e = absurd (omega arith)
-
 through_other : (k : Cluster) (es : List Event) (w : World) → Inv k es w → (d : ℕ) (call : Call) (places : ℕ)
     → Possible w d call → ((c : Command) → call ≡ submit c → Known es c)
     → Throughout (founded k.founding) (Known es) (pasts w) d (pasts w d)
@@ -148,14 +145,14 @@ through_any k es w i d (submit c) places possible =
     subst (Throughout (founded k.founding) (Known es) (pasts w) d (pasts w d))
     (sym (submit_writes c places (desk_of (w.seats d))))
     (subst (Core (founded k.founding) (Known es)) (pasts_here (pasts w) d) i.core)
-through_any k es w i d stand places possible = through_other k es w i d stand places possible (λ c e. differ (cc))
-through_any k es w i d pump places possible = through_other k es w i d pump places possible (λ c e. differ (cc))
-through_any k es w i d prod places possible = through_other k es w i d prod places possible (λ c e. differ (cc))
+through_any k es w i d stand places possible = through_other k es w i d stand places possible (λ c e. absurd (cc))
+through_any k es w i d pump places possible = through_other k es w i d pump places possible (λ c e. absurd (cc))
+through_any k es w i d prod places possible = through_other k es w i d prod places possible (λ c e. absurd (cc))
 through_any k es w i d (fetch peer) places possible =
-    through_other k es w i d (fetch peer) places possible (λ c e. differ (cc))
+    through_other k es w i d (fetch peer) places possible (λ c e. absurd (cc))
 through_any k es w i d (hear m) places possible =
-    through_other k es w i d (hear m) places possible (λ c e. differ (cc))
-through_any k es w i d restart places possible = through_other k es w i d restart places possible (λ c e. differ (cc))
+    through_other k es w i d (hear m) places possible (λ c e. absurd (cc))
+through_any k es w i d restart places possible = through_other k es w i d restart places possible (λ c e. absurd (cc))
 
 pub seated_cut : (k : Cluster) (es : List Event) (w : World) (i : Inv k es w) (d : ℕ) (call : Call) (places n : ℕ)
     (memory : State) (machine : List ℕ) → Possible w d call → Recalls (w.seats d).state memory

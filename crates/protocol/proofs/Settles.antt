@@ -89,7 +89,7 @@ module _ (f : Membership) (S : Command → Type 0) (P : ℕ → Past) (d : ℕ) 
             ];
         settled = λ j i h v.
             let old : Voted x j (promise x) i =
-            ⊎_elim (λ o. o) (λ e. let z : ◌≡◌ {A = ℕ} 0 1 = cc in absurd (omega arith))
+            ⊎_elim (λ o. o) (λ e. absurd (cc))
             (Contains-push_cases x.history (Settle c) (Put j (promise x) i) v) in
             elim (cases_lt (count x) j) [
               | inl new ↦

@@ -99,7 +99,7 @@ module _ (f : Membership) (S : Command → Type 0) (P : ℕ → Past) (d : ℕ) 
   -- a promise is no vote
   old_vote : (n a : ℕ) (c : Command) → Voted promised_past n a c → Voted x n a c
   old_vote n a c v =
-      ⊎_elim (λ o. o) (λ e. let z : ◌≡◌ {A = ℕ} 0 1 = cc in absurd (omega arith))
+      ⊎_elim (λ o. o) (λ e. absurd (cc))
       (Contains-push_cases x.history (Promise b) (Put n a c) v)
 
   -- a director that begins to stand with a ballot of its own knows what a leader should

@@ -133,7 +133,7 @@ below_highest : (ws : List Write) (n b : ℕ) (c : Command) → Contains ws (Put
 below_highest [] n b c h = absurd (has_none (Put n b c) h)
 below_highest (Promise d ∷ ws) n b c h =
     elim (has_cons (Promise d) ws (Put n b c) h)
-    [ inl e ↦ let z : ◌≡◌ {A = ℕ} 0 1 = cc in omega arith | inr r ↦ below_highest ws n b c r ]
+    [ inl e ↦ absurd (cc) | inr r ↦ below_highest ws n b c r ]
 below_highest (Put k d f ∷ ws) n b c h =
     elim (has_cons (Put k d f) ws (Put n b c) h) [
       | inl e ↦
@@ -145,7 +145,7 @@ below_highest (Put k d f ∷ ws) n b c h =
     ]
 below_highest (Settle f ∷ ws) n b c h =
     elim (has_cons (Settle f) ws (Put n b c) h)
-    [ inl e ↦ let z : ◌≡◌ {A = ℕ} 0 1 = cc in omega arith | inr r ↦ below_highest ws n b c r ]
+    [ inl e ↦ absurd (cc) | inr r ↦ below_highest ws n b c r ]
 
 -- the newest entry is the first one, or was put
 newest_put : (ws : List Write) (n : ℕ) (e : Entry)
@@ -237,7 +237,7 @@ module _ (x : Past) (lawful : Lawful x) where
 pub voted_at : (ws : List Write) (n b : ℕ)
     → ((c : Command) × Contains ws (Put n b c)) ⊎ ((c : Command) → Contains ws (Put n b c) → ⊥)
 voted_at [] n b = inr (λ c h. has_none (Put n b c) h)
-voted_at (Promise d ∷ ws) n b = other (Promise d) ws n b (λ c e. let z : ◌≡◌ {A = ℕ} 0 1 = cc in omega arith)
+voted_at (Promise d ∷ ws) n b = other (Promise d) ws n b (λ c e. absurd (cc))
     (voted_at ws n b)
 voted_at (Put k d f ∷ ws) n b =
     elim (cases_eq k n) [
@@ -253,5 +253,5 @@ voted_at (Put k d f ∷ ws) n b =
           ]
       | inr e ↦ other (Put k d f) ws n b (λ c h. e (cc)) (voted_at ws n b)
     ]
-voted_at (Settle f ∷ ws) n b = other (Settle f) ws n b (λ c e. let z : ◌≡◌ {A = ℕ} 0 1 = cc in omega arith)
+voted_at (Settle f ∷ ws) n b = other (Settle f) ws n b (λ c e. absurd (cc))
     (voted_at ws n b)

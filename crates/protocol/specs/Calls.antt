@@ -1,6 +1,6 @@
 -- The seven calls of a director, and what each of them does where it is not refused. What hearing a message does is in
 -- Hearing.antt, and when a call is refused in Refusing.antt.
-use Rattle.std.specs.Prelude.{◌≡◌, ℕ, ◌+◌, ◌*◌, ◌/◌, ◌<◌, ◌≤◌, Bool, cond, not, ◌&&◌, List, [], ◌∷◌, ◌++◌, map, drop, Some, None, filter, Option, ◌==◌, nat_le, nat_lt, find, is_some}
+use Rattle.std.specs.Prelude.{◌≡◌, ℕ, ◌+◌, ◌*◌, ◌/◌, ◌<◌, ◌≤◌, Bool, cond, not, ◌&&◌, List, [], ◌∷◌, ◌++◌, map, drop, Some, None, filter, Option, ◌==◌, nat_le, nat_lt, find, is_some, slice_get}
 use Rattle.std.specs.List.{flat_map, range_with_len, list_any}
 use Rattle.command.specs.declared.Command.{Command}
 use Rattle.command.specs.declared.sets.DirectorSet.{DirectorSet}
@@ -12,7 +12,6 @@ use Rattle.journal.specs.declared.writes.Write.TheVariants.{Promise, Put}
 use Rattle.journal.specs.Windows.{span, element_at}
 use Rattle.journal.specs.Meaning.{blank}
 use Rattle.protocol.specs.declared.messages.Message.{Message}
-use Rattle.protocol.specs.Lists.{head_of}
 use Rattle.protocol.specs.Messages.{owner, prepare, fetch}
 use Rattle.protocol.specs.Desks.{Role, following, standing, Desk, Step, ◌▸◌, quiet, write, send, become, repeat}
 use Rattle.protocol.specs.Desks.{settled_by, promised, me, itself, ack_of, with_role, with_ack, cleared}
@@ -82,7 +81,7 @@ is_unreported n reports = (element_at blank reports n).ballot == 0
 abbrev pub command_for : ℕ → Role → Option Command
 command_for n following = None
 command_for n (standing q line reports) =
-    cond (is_unreported n reports) (head_of line) (Some (element_at blank reports n).command)
+    cond (is_unreported n reports) (slice_get line 0) (Some (element_at blank reports n).command)
 
 -- which leaves the line if it stood there
 abbrev pub fed : ℕ → Role → Role

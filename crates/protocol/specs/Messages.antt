@@ -44,95 +44,44 @@ blanks = replicate 8 blank
 
 -- What each kind carries. Fields that a kind does not use are 0 or blank.
 
--- asks to promise the ballot, and to tell of the slots from s on
-abbrev pub prepare : ℕ → ℕ → ℕ → ℕ → Message
-prepare from to b s =
+-- with no more than a ballot and a slot
+abbrev pub plain : Kind → ℕ → ℕ → ℕ → ℕ → Message
+plain kind from to b n =
     record {
-      kind = 1;
+      kind = kind_number kind;
       from = from;
       to = to;
       ballot = b;
-      slot = s;
+      slot = n;
       command = noop;
       set = nobody;
       upto = 0;
       entries = blanks;
     }
+
+-- asks to promise the ballot, and to tell of the slots from s on
+abbrev pub prepare : ℕ → ℕ → ℕ → ℕ → Message
+prepare from to b s = plain Prepare from to b s
 
 -- promises the ballot, with the open entries of the slots s to s + 7
 abbrev pub promise : ℕ → ℕ → ℕ → ℕ → List Entry → Message
-promise from to b s es =
-    record {
-      kind = 2;
-      from = from;
-      to = to;
-      ballot = b;
-      slot = s;
-      command = noop;
-      set = nobody;
-      upto = 0;
-      entries = es;
-    }
+promise from to b s es = record (plain Promise from to b s) { entries = es }
 
 -- asks to put the command into slot n; those of the set did, and the owner of the ballot has settled the slots up to u
 abbrev pub accept : ℕ → ℕ → ℕ → ℕ → Command → DirectorSet → ℕ → Message
-accept from to b n c set u =
-    record {
-      kind = 3;
-      from = from;
-      to = to;
-      ballot = b;
-      slot = n;
-      command = c;
-      set = set;
-      upto = u;
-      entries = blanks;
-    }
+accept from to b n c set u = record (plain Accept from to b n) { command = c; set = set; upto = u }
 
 -- tells the ballot's owner that those of the set put slot n
 abbrev pub acked : ℕ → ℕ → ℕ → ℕ → DirectorSet → Message
-acked from to b n set =
-    record {
-      kind = 4;
-      from = from;
-      to = to;
-      ballot = b;
-      slot = n;
-      command = noop;
-      set = set;
-      upto = 0;
-      entries = blanks;
-    }
+acked from to b n set = record (plain Acked from to b n) { set = set }
 
 -- tells the command that is settled in slot n
 abbrev pub learn : ℕ → ℕ → ℕ → Command → Message
-learn from to n c =
-    record {
-      kind = 5;
-      from = from;
-      to = to;
-      ballot = 0;
-      slot = n;
-      command = c;
-      set = nobody;
-      upto = 0;
-      entries = blanks;
-    }
+learn from to n c = record (plain Learn from to 0 n) { command = c }
 
 -- asks for the settled commands from slot n on
 abbrev pub fetch : ℕ → ℕ → ℕ → Message
-fetch from to n =
-    record {
-      kind = 6;
-      from = from;
-      to = to;
-      ballot = 0;
-      slot = n;
-      command = noop;
-      set = nobody;
-      upto = 0;
-      entries = blanks;
-    }
+fetch from to n = plain Fetch from to 0 n
 
 -- Malformed messages.
 

@@ -1,6 +1,6 @@
 -- Whom a director passes a slot on to.
 use Rattle.std.specs.Prelude.{ℕ, ◌+◌, ◌-◌, Bool, cond, not, ◌&&◌, ◌||◌, List, [], ◌∷◌, ◌++◌, drop, Some, None, Option, ◌==◌, find}
-use Rattle.std.specs.List.{range_with_len, list_any}
+use Rattle.std.specs.List.{range_with_len, list_any, before_first, after_first}
 use Rattle.command.specs.declared.Command.{Command}
 use Rattle.command.specs.declared.sets.DirectorSet.{DirectorSet}
 use Rattle.command.specs.Chains.{chain_for}
@@ -33,18 +33,9 @@ marked d e =
     list_any (λ n. removes e (open_at d n).command) (window d)
     || list_any (removes e) (drop (settled_by d - span) d.journal.settled)
 
--- those after director d in the list, and those before it
-abbrev pub behind : ℕ → List ℕ → List ℕ
-behind d [] = []
-behind d (m ∷ ms) = cond (m == d) ms (behind d ms)
-
-abbrev pub ahead : ℕ → List ℕ → List ℕ
-ahead d [] = []
-ahead d (m ∷ ms) = cond (m == d) [] (m ∷ ahead d ms)
-
 -- the other members in the order of the ring, from the one after director d on; none if d is no member
 abbrev pub others : ℕ → List ℕ → List ℕ
-others d ms = cond (is_member d ms) (behind d ms ++ ahead d ms) []
+others d ms = cond (is_member d ms) (after_first (λ m. m == d) ms ++ before_first (λ m. m == d) ms) []
 
 -- next for slot n: the first other in the ring that owns the entry's ballot or is not marked
 unfoldable pub next : Desk → ℕ → Option ℕ

@@ -68,9 +68,8 @@ pub record Event : Type 0 where
 -- the seat after an accepted call
 abbrev pub seat_after : Make → Call → Seat → Outcome → Seat
 seat_after make call s o =
-    record {
+    record s {
       state = o.state;
-      capacity = s.capacity;
       history = s.history ++ o.writes;
       machine = (machine_after make call (desk_of s) s.machine o).0;
       outstanding = false;
@@ -84,9 +83,8 @@ writes_of (Err r) = []
 -- The seat after a cut: the first so many writes of the call stand. Of memory and machine nothing is known.
 abbrev pub seat_cut : Seat → List Write → State → List ℕ → Seat
 seat_cut s ws memory machine =
-    record {
+    record s {
       state = memory;
-      capacity = s.capacity;
       history = s.history ++ ws;
       machine = machine;
       outstanding = true;

@@ -2,6 +2,7 @@
 use Rattle.std.proofs.Common.{◌≡◌, ℕ, Bool, true, false, cond, leb, List, [], ◌∷◌, ◌++◌, Option, Some, None, Result, Ok, Err, fold, sym, refl, ap, ◌∙◌, arith}
 use Rattle.std.specs.Result.{result_eq}
 use Rattle.std.proofs.lemmas.List.Elements.{filter-append}
+use Rattle.std.proofs.lemmas.List.Sums.{fold-append}
 use Rattle.std.proofs.lemmas.Bool.Decides.{nat_tests}
 use Rattle.command.specs.declared.Command.{Command}
 use Rattle.command.specs.declared.verbs.Verb.{Verb}
@@ -45,19 +46,12 @@ module _ (rule : Rule) (now : List ℕ × ℕ) (c : Command) where
   unfolding ran
   ran_other h = ap (λ t. fold (λ (x : List ℕ × ℕ) (k : Command). rule x.0 k) now (cond t (c ∷ []) [])) (sym h)
 
-folded_append : (rule : Rule) (now : List ℕ × ℕ) (cs es : List Command)
-    → fold (λ (x : List ℕ × ℕ) (k : Command). rule x.0 k) now (cs ++ es)
-    ≡ fold (λ (x : List ℕ × ℕ) (k : Command). rule x.0 k)
-    (fold (λ (x : List ℕ × ℕ) (k : Command). rule x.0 k) now cs) es
-folded_append rule now [] es = refl
-folded_append rule now (c ∷ cs) es = folded_append rule (rule now.0 c) cs es
-
 pub ran_append : (rule : Rule) (now : List ℕ × ℕ) (cs es : List Command)
     → ran rule now (cs ++ es) ≡ ran rule (ran rule now cs) es
 unfolding ran
 ran_append rule now cs es =
     ap (fold (λ (x : List ℕ × ℕ) (k : Command). rule x.0 k) now) (filter-append (λ c. leb 16 c.verb) cs es)
-    ∙ folded_append rule now (for_machine cs) (for_machine es)
+    ∙ fold-append (λ (x : List ℕ × ℕ) (k : Command). rule x.0 k) now (for_machine cs) (for_machine es)
 
 pub settled_append : (ws vs : List Write) → settled_in (ws ++ vs) ≡ settled_in ws ++ settled_in vs
 settled_append [] vs = refl
