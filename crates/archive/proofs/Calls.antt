@@ -1,5 +1,5 @@
 -- The writer's calls, by what its tests found.
-use Rattle.std.proofs.Common.{◌≡◌, ℕ, ◌<◌, Bool, true, false, cond, List, length, Some, None, Ok, Err, Option, sym, refl, ap, ◌∙◌, arith}
+use Rattle.std.proofs.Common.{◌≡◌, ℕ, ◌<◌, Bool, true, false, cond, List, length, Some, None, Ok, Err, Option, sym, refl, ap, ◌∙◌}
 use Rattle.std.proofs.lemmas.Bool.{lt-ltb}
 use Rattle.command.specs.declared.Command.{Command}
 use Rattle.command.specs.Commands.{well_formed}
@@ -36,9 +36,9 @@ size_told c n e = go (well_formed c) refl e
 pub answer_ok : {X E : Type 0} (back : Refusal → E) (x : Option Refusal) (y z : X) → Ok y ≡ answer back x z
     → (x ≡ None) × (y ≡ z)
 answer_ok back None y z h = (refl, cc)
-answer_ok back (Some e) y z h = let z : ◌≡◌ {A = ℕ} 0 1 = cc in absurd (omega arith)
+answer_ok back (Some e) y z h = absurd (cc)
 
 pub answer_err : {X E : Type 0} (back : Refusal → E) (x : Option Refusal) (e : E) (z : X) → Err e ≡ answer back x z
     → (r : Refusal) × (x ≡ Some r) × (e ≡ back r)
-answer_err back None e z h = let z : ◌≡◌ {A = ℕ} 0 1 = cc in absurd (omega arith)
+answer_err back None e z h = absurd (cc)
 answer_err back (Some r) e z h = (r, refl, cc)

@@ -17,7 +17,6 @@ use Rattle.archive.specs.Reading.{start_of, count_at, body_of}
 use Rattle.archive.specs.Readers.{Exact}
 use Rattle.octets.proofs.Parts.{part_join, area_bytes}
 use Rattle.archive.proofs.Scans.{scan_entries, whole}
-use Rattle.archive.proofs.OneEntry.{some_none}
 use Rattle.archive.specs.declared.reading.Broken.{Broken}
 use Rattle.archive.specs.declared.reading.Broken.TheVariants.{Mark, Chain, Count}
 
@@ -30,18 +29,18 @@ record Passed (a b c : Bool) (d : Option Broken) : Type 0 where
 
 passed : (a b c : Bool) (d : Option Broken) → cond a (Some Mark) (cond b (cond c d (Some Chain)) (Some Mark)) ≡ None
     → Passed a b c d
-passed true b c d e = absurd (some_none e)
-passed false false c d e = absurd (some_none e)
-passed false true false d e = absurd (some_none e)
+passed true b c d e = absurd (cc)
+passed false false c d e = absurd (cc)
+passed false true false d e = absurd (cc)
 passed false true true d e = record { long = refl; marked = refl; chained = refl; listed = e }
 
 counted : (f : List ℕ) (cs : List Command) (o : Option ℕ) → or_count f cs o ≡ None → (o ≡ None) × (has_count f cs ≡ true)
-counted f cs (Some i) e = absurd (some_none e)
+counted f cs (Some i) e = absurd (cc)
 counted f cs None e = (refl, go (has_count f cs) e)
   where
     go : (b : Bool) → cond b None (Some (Count (count_at f))) ≡ None → b ≡ true
     go true e = refl
-    go false e = absurd (some_none e)
+    go false e = absurd (cc)
 
 -- the first broken part, by what the tests found
 pub fault_by : (f : List ℕ) (a b c : Bool) → ltb (length f) 8 ≡ a → has_mark f ≡ b → has_chain f ≡ c

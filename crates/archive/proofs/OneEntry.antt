@@ -48,12 +48,6 @@ untold_parts c h =
     let q = and_parts (eqb c.origin 0) (eqb c.serial 0) p.0 in
     record { origin = eqb-true _ 0 q.0; serial = eqb-true _ 0 q.1; b = eqb-true _ 0 p.1 }
 
-pub none_some : {A : Type 0} {x : A} → None ≡ Some x → ⊥
-none_some e = cc
-
-pub some_none : {A : Type 0} {x : A} → Some x ≡ None → ⊥
-some_none e = cc
-
 -- enough bytes are left
 within_all : (s left : ℕ) → s ≤ left → within left (Some s) ≡ Some s
 within_all s left h = cond-true (leb s left) (Some s) None (le-leb s left h)
@@ -119,7 +113,7 @@ pub within_some : (s left n : ℕ) → within left (Some s) ≡ Some n → (n �
 within_some s left n h =
     elim (cases_Bool (leb s left)) [
       | inl y ↦ (let e = sym (cond-true (leb s left) (Some s) None y) ∙ h in cc, leb-true s left y)
-      | inr z ↦ absurd (none_some (sym (cond-false (leb s left) (Some s) None z) ∙ h))
+      | inr z ↦ let e : None ≡ Some n = sym (cond-false (leb s left) (Some s) None z) ∙ h in absurd (cc)
     ]
 
 -- the same of an add or a remove
@@ -129,7 +123,7 @@ directed_some a left n h =
     elim (cases_Bool (leb a 31)) [
       | inl y ↦
           let w = within_some 2 left n (ap (within left) (sym (cond-true (leb a 31) (Some 2) None y)) ∙ h) in (y, w.0, w.1)
-      | inr z ↦ absurd (none_some (ap (within left) (sym (cond-false (leb a 31) (Some 2) None z)) ∙ h))
+      | inr z ↦ let e : None ≡ Some n = ap (within left) (sym (cond-false (leb a 31) (Some 2) None z)) ∙ h in absurd (cc)
     ]
 
 -- a command as it was read is such as a list may hold, and is written as it was read
@@ -162,7 +156,7 @@ module _ (v : Option Verb) (bs : List ℕ) (h : Bytes bs) (e : verb_of (get_or b
 
 rewritten_as : (v : Option Verb) (bs : List ℕ) (size : ℕ) → Bytes bs → verb_of (get_or bs 0 0) ≡ v
     → within (length bs) (size_as v (get_or bs 1 0)) ≡ Some size → Rewritten (command_as v bs) bs size
-rewritten_as None bs size h e some = absurd (none_some some)
+rewritten_as None bs size h e some = absurd (cc)
 rewritten_as (Some Noop) bs size h e some =
     let w = within_some 1 (length bs) size some in
     rw w.0
@@ -219,7 +213,7 @@ rewritten bs size h some = rewritten_as (verb_of (get_or bs 0 0)) bs size h refl
 -- an entry has at least one byte, and lies within those that are left
 pub sized_part : (v : Option Verb) (a left size : ℕ) → within left (size_as v a) ≡ Some size
     → (1 ≤ size) × (size ≤ left)
-sized_part None a left size h = absurd (none_some h)
+sized_part None a left size h = absurd (cc)
 sized_part (Some Noop) a left size h = let w = within_some 1 left size h in (omega arith, omega arith)
 sized_part (Some Add) a left size h = let p = directed_some a left size h in (omega arith, omega arith)
 sized_part (Some Remove) a left size h = let p = directed_some a left size h in (omega arith, omega arith)

@@ -16,7 +16,6 @@ use Rattle.archive.specs.declared.writing.Refusal.TheVariants.{IllFormed, Invali
 use Rattle.archive.specs.Layout.{header, entry, entries, layout}
 use Rattle.archive.specs.Writing.{left, has_room, begin_refusal, begun, add_refusal, grown, seal_refusal, Run}
 use Rattle.archive.specs.Writing.{began, added, Sealed}
-use Rattle.archive.proofs.OneEntry.{some_none}
 
 -- the front of the area is header and entries, the archive tells where they end and how many there are, the count has
 -- room
@@ -33,7 +32,7 @@ pub record Holds (area : List ℕ) (o : OpenArchive) (ms : List ℕ) (cs : List 
 -- a test that did not refuse passed
 passes : (e : Refusal) (b : Bool) (o : Option Refusal) → cond b o (Some e) ≡ None → (b ≡ true) × (o ≡ None)
 passes e true o h = (refl, h)
-passes e false o h = absurd (some_none h)
+passes e false o h = absurd (cc)
 
 begun_holds : (old ms : List ℕ) → begin_refusal old ms ≡ None → Holds (over old 0 (header ms)) (begun ms) ms []
 begun_holds old ms h =
