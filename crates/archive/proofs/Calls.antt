@@ -1,5 +1,5 @@
 -- The writer's calls, by what its tests found.
-use Rattle.std.proofs.Common.{◌≡◌, ℕ, ◌<◌, true, cond, List, length, Some, None, Ok, Err, Option, sym, refl, ap, ◌∙◌, arith}
+use Rattle.std.proofs.Common.{◌≡◌, ℕ, ◌<◌, Bool, true, false, cond, List, length, Some, None, Ok, Err, Option, sym, refl, ap, ◌∙◌, arith}
 use Rattle.std.proofs.lemmas.Bool.{lt-ltb}
 use Rattle.command.specs.declared.Command.{Command}
 use Rattle.command.specs.Commands.{well_formed}
@@ -8,7 +8,7 @@ use Rattle.archive.specs.declared.writing.OpenArchive.{OpenArchive}
 use Rattle.archive.specs.declared.writing.Refusal.{Refusal}
 use Rattle.archive.specs.declared.writing.Refusal.TheVariants.{IllFormed, InvalidChain, NoSpace, Full}
 use Rattle.archive.specs.Layout.{header, entry}
-use Rattle.archive.specs.Writing.{answer, has_room, begin_refusal, add_refusal}
+use Rattle.archive.specs.Writing.{answer, has_room, entry_size, begin_refusal, add_refusal}
 
 pub begin_taken : (area ms : List ℕ) (n : ℕ) → valid_chain ms ≡ true → n ≡ length (header ms) → has_room area 0 n ≡ true
     → begin_refusal area ms ≡ None
@@ -22,6 +22,15 @@ add_taken area o c n p l e q =
     (cond (lt-ltb o.count 65535 l j) (cond ((ap (has_room area o.at) (sym e) ∙ q) j) None (Some NoSpace))
     (Some Full))
     (Some IllFormed)
+
+-- a command whose entry has a size may stand in a list
+pub size_told : (c : Command) (n : ℕ) → Some n ≡ entry_size c → (well_formed c ≡ true) × (n ≡ length (entry c))
+size_told c n e = go (well_formed c) refl e
+  where
+    go : (b : Bool) → well_formed c ≡ b → Some n ≡ cond b (Some (length (entry c))) None
+        → (well_formed c ≡ true) × (n ≡ length (entry c))
+    go true w e = (w, cc)
+    go false w e = absurd (cc)
 
 -- what an answer tells of the refusal
 pub answer_ok : {X E : Type 0} (back : Refusal → E) (x : Option Refusal) (y z : X) → Ok y ≡ answer back x z

@@ -1,9 +1,10 @@
 -- The whole file: it is found whole exactly where it is the layout of what the reader tells.
-use Rattle.std.proofs.Common.{◌≡◌, ℕ, ◌+◌, ◌^◌, ◌<◌, ◌≤◌, Bool, true, false, cond, ltb, leb, List, [], ◌∷◌, ◌++◌, length, get_or, take, drop, Some, None, Option, sym, refl, ap, ◌∙◌, ap₂, append_assoc, arith}
+use Rattle.std.proofs.Common.{◌≡◌, ℕ, ◌+◌, ◌^◌, ◌<◌, ◌≤◌, Bool, true, false, cond, ltb, leb, List, [], ◌∷◌, ◌++◌, length, get_or, take, drop, Some, None, Option, Fits, w8, sym, refl, ap, ◌∙◌, ap₂, append_assoc, arith}
 use Rattle.std.proofs.lemmas.Bool.{and_parts, and_from, le-leb, leb-true, eqb-true, eq-eqb, le-ltb, ltb-false, cond-true}
 use Rattle.std.proofs.ByRecursion.{All-drop, All-take}
 use Rattle.std.proofs.lemmas.List.{length-append, length-drop, length-take-le, take_at, drop_at, take-append-drop, take-take}
-use Rattle.std.proofs.lemmas.Slice.Eq.{bytes_eq-Decides}
+use Rattle.std.proofs.lemmas.Slice.Eq.{starts_is}
+use Rattle.std.proofs.lemmas.Bool.Decides.{Decides-eqb}
 use Rattle.octets.specs.Numbers.{le, num}
 use Rattle.octets.proofs.Areas.{part_more}
 use Rattle.octets.proofs.Numbers.{Bytes, num_le, le_num, num_fits}
@@ -14,17 +15,21 @@ use Rattle.archive.specs.Layout.{mark, header, entries, layout, Archive}
 use Rattle.archive.specs.Reading.{has_mark, has_chain, has_count, or_count, fault, scanned, scan_all, found, members_of}
 use Rattle.archive.specs.Reading.{start_of, count_at, body_of}
 use Rattle.archive.specs.Readers.{Exact}
-use Rattle.octets.proofs.Parts.{part_join}
-use Rattle.archive.proofs.Scans.{scan_entries, whole, some_none}
+use Rattle.octets.proofs.Parts.{part_join, area_bytes}
+use Rattle.archive.proofs.Scans.{scan_entries, whole}
+use Rattle.archive.proofs.OneEntry.{some_none}
+use Rattle.archive.specs.declared.reading.Broken.{Broken}
+use Rattle.archive.specs.declared.reading.Broken.TheVariants.{Mark, Chain, Count}
 
 -- where nothing is broken, each test passed
-record Passed (a b c : Bool) (d : Option ℕ) : Type 0 where
+record Passed (a b c : Bool) (d : Option Broken) : Type 0 where
   long : a ≡ false
   marked : b ≡ true
   chained : c ≡ true
   listed : d ≡ None
 
-passed : (a b c : Bool) (d : Option ℕ) → cond a (Some 0) (cond b (cond c d (Some 4)) (Some 0)) ≡ None → Passed a b c d
+passed : (a b c : Bool) (d : Option Broken) → cond a (Some Mark) (cond b (cond c d (Some Chain)) (Some Mark)) ≡ None
+    → Passed a b c d
 passed true b c d e = absurd (some_none e)
 passed false false c d e = absurd (some_none e)
 passed false true false d e = absurd (some_none e)
@@ -34,16 +39,16 @@ counted : (f : List ℕ) (cs : List Command) (o : Option ℕ) → or_count f cs 
 counted f cs (Some i) e = absurd (some_none e)
 counted f cs None e = (refl, go (has_count f cs) e)
   where
-    go : (b : Bool) → cond b None (Some (count_at f)) ≡ None → b ≡ true
+    go : (b : Bool) → cond b None (Some (Count (count_at f))) ≡ None → b ≡ true
     go true e = refl
     go false e = absurd (some_none e)
 
 -- the first broken part, by what the tests found
 pub fault_by : (f : List ℕ) (a b c : Bool) → ltb (length f) 8 ≡ a → has_mark f ≡ b → has_chain f ≡ c
-    → fault f ≡ cond a (Some 0)
-    (cond b (cond c (or_count f (scanned f).commands (scanned f).broken) (Some 4)) (Some 0))
-fault_by f a b c p q r = λ j. cond (p j) (Some 0)
-    (cond (q j) (cond (r j) (or_count f (scanned f).commands (scanned f).broken) (Some 4)) (Some 0))
+    → fault f ≡ cond a (Some Mark)
+    (cond b (cond c (or_count f (scanned f).commands (scanned f).broken) (Some Chain)) (Some Mark))
+fault_by f a b c p q r = λ j. cond (p j) (Some Mark)
+    (cond (q j) (cond (r j) (or_count f (scanned f).commands (scanned f).broken) (Some Chain)) (Some Mark))
 
 -- ---- what is written is found whole
 
@@ -111,7 +116,7 @@ written f ms cs a =
     let all : fault file ≡ None =
     fault_by file false true true (le-ltb (length file) 8 (omega arith)) refl chain
     ∙ (ap (λ s. or_count file s.commands s.broken) scan
-    ∙ cond-true (has_count file cs) None (Some (count_at file)) count) in
+    ∙ cond-true (has_count file cs) None (Some (Count (count_at file))) count) in
     rw same (all, members, ap (λ s. s.commands) scan)
 
 -- ---- what is found whole was written
@@ -163,7 +168,7 @@ read_back f b e =
     record {
       laid = sym (three_parts f fits long)
           ∙ ap₂ (λ (xs ys : List ℕ). xs ++ (ys ++ tail))
-          (front_header f fits long ((bytes_eq-Decides (take 4 f) mark).0 p.marked)) (sym w.bytes)
+          (front_header f fits long (ap (take 4) ((starts_is Decides-eqb f mark (has_mark f) refl).0 p.marked))) (sym w.bytes)
           ∙ ap (λ (xs : List ℕ). header (members_of f) ++ (entries cs ++ xs)) (sym count);
       chain = c.1;
       formed = w.formed;
@@ -173,3 +178,7 @@ read_back f b e =
 
 pub exact : (f : List ℕ) → Bytes f → Exact f
 exact f b = record { only = read_back f b; all = written f }
+
+-- the same, as the code knows a file: each of its bytes fits
+pub exact_file : (f : List ℕ) → ((i : ℕ) → Fits w8 (get_or f i 0)) → Exact f
+exact_file f fits = exact f (area_bytes f fits)

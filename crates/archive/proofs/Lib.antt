@@ -1,4 +1,5 @@
 pub mod OneEntry
+pub mod Parts
 pub mod Scans
 pub mod Files
 pub mod Runs

@@ -1,6 +1,6 @@
 //! A small area: made, written to, dumped, and broken.
 
-use crate::print;
+use crate::{PROGRAM, print};
 use area_journal::AreaJournal;
 use command::Command;
 use console::fail;
@@ -10,7 +10,7 @@ use journal::Journal;
 pub(crate) fn run(rt: &HostRuntime) -> anyhow::Result<()> {
     let area = vec![in rt.alloc(); 0u8; 168 + 12 * 20]?;
     let Ok(mut journal) = AreaJournal::open(area) else {
-        return fail(rt, &"dump: a new area did not open");
+        return fail(rt, PROGRAM, &"a new area did not open");
     };
     println!(rt; "a small area, written to:")?;
     write_some(&mut journal);
@@ -20,9 +20,9 @@ pub(crate) fn run(rt: &HostRuntime) -> anyhow::Result<()> {
         *byte = 7;
     }
     match AreaJournal::open(broken) {
-        Ok(_) => fail(rt, &"dump: the broken area was opened"),
+        Ok(_) => fail(rt, PROGRAM, &"the broken area was opened"),
         Err((_, fault)) => {
-            println!(rt; "with one byte changed: dump: {fault}")?;
+            println!(rt; "with one byte changed: {PROGRAM}: {fault}")?;
             Ok(())
         }
     }

@@ -6,42 +6,38 @@ mod demo;
 mod text;
 
 use area_journal::AreaJournal;
-use console::{fail, or_say, status};
+use console::{fail, or_fail, or_fail_at, status};
 use std::process::ExitCode;
 use std::{env, fs};
 
-const USAGE: &str = "dump: usage: dump | dump FILE";
+/// The name that the program's refusals begin with.
+pub(crate) const PROGRAM: &str = "dump";
+
+const USAGE: &str = "usage: dump | dump FILE";
 
 fn main(rt: HostRuntime) -> ExitCode {
     status(run(&rt))
 }
 
 fn run(rt: &HostRuntime) -> anyhow::Result<()> {
-    let mut given = env::args(rt)?;
-    let _program = given.next();
-    let Some(file) = given.next() else {
-        return demo::run(rt);
-    };
-    if given.next().is_some() {
-        return fail(rt, &USAGE);
+    let given = env::args(rt)?.collect::<Vec<_>>(rt.alloc())?;
+    match given.as_slice() {
+        [] | [_] => demo::run(rt),
+        [_, file] => dump(rt, file.as_str()),
+        _ => fail(rt, PROGRAM, &USAGE),
     }
-    dump(rt, file.as_str())
 }
 
 // Opens the area in a file and prints it.
 fn dump(rt: &HostRuntime, file: &str) -> anyhow::Result<()> {
-    let area = or_say(rt, "dump", file, fs::read(rt, file))?;
-    match AreaJournal::open(area) {
-        Ok(journal) => print(rt, &journal),
-        Err((_, fault)) => fail(rt, &format_args!("dump: {fault}")),
-    }
+    let area = or_fail_at(rt, PROGRAM, file, fs::read(rt, file))?;
+    let opened = AreaJournal::open(area).map_err(|(_, fault)| fault);
+    print(rt, &or_fail(rt, PROGRAM, opened)?)
 }
 
 /// Prints a journal.
 pub(crate) fn print(rt: &HostRuntime, journal: &AreaJournal) -> anyhow::Result<()> {
-    let Ok(text) = text::of(rt.alloc(), journal) else {
-        return fail(rt, &"dump: no memory is left");
-    };
+    let text = or_fail(rt, PROGRAM, text::of(rt.alloc(), journal))?;
     rt.print(text.as_str())?;
     Ok(())
 }

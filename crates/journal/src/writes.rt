@@ -17,13 +17,7 @@ impl Entry {
     /// The entry of a slot in which nothing was put.
     pub const BLANK: Entry = Entry {
         ballot: 0,
-        command: Command {
-            verb: 0,
-            origin: 0,
-            serial: 0,
-            a: 0,
-            b: 0,
-        },
+        command: Command::NOOP,
     };
 }
 

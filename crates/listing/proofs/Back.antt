@@ -1,48 +1,43 @@
 -- Words, lines and numbers that were written are found again.
-use Rattle.std.proofs.Common.{◌≡◌, ℕ, ◌^◌, ◌<◌, ◌≤◌, Bool, true, false, not, ◌&&◌, eqb, leb, List, [], ◌∷◌, ◌++◌, map, length, get_or, Some, decimal, refl, ap, ◌∙◌, ⊎_elim, arith, rules}
+use Rattle.std.proofs.Common.{◌≡◌, ℕ, ◌^◌, ◌<◌, ◌≤◌, Bool, true, false, not, eqb, leb, List, [], ◌∷◌, ◌++◌, map, length, get_or, Some, decimal, refl, ap, ◌∙◌, ⊎_elim, arith}
 use Rattle.std.specs.Str.{all_ascii_digits}
 use Rattle.std.specs.Char.{is_ascii_digit}
-use Rattle.std.proofs.lemmas.Str.Parse.{IsNumeralModel, numerals_by_fold}
+use Rattle.std.specs.List.{All, list_all, onto_first}
+use Rattle.std.proofs.lemmas.List.Elements.{All-nil, All-cons}
+use Rattle.std.proofs.lemmas.List.Folds.{list_all-append}
+use Rattle.std.proofs.lemmas.List.Splits.{slice_split_none, slice_split_at}
+use Rattle.listing.proofs.Figures.{own}
 use Rattle.std.proofs.lemmas.Fmt.{digits_decimal, digits_value-decimal, decimal_nonempty, first_decimal, decimal_digit}
 use Rattle.std.proofs.lemmas.Bool.{and_parts, and_from, not-true, ne_eqb, not_from_false, leb-true, le-leb, cases_lt}
 use Rattle.std.proofs.lemmas.List.{append-nil}
-use Rattle.listing.specs.Pieces.{onto, lines, words}
-use Rattle.listing.specs.Numbers.{decimal_of, read_on, plain, numeral}
+use Rattle.listing.specs.Pieces.{lines, words}
+use Rattle.listing.specs.Numbers.{decimal_of, plain, numeral}
 use Rattle.listing.specs.Writing.{spaced}
 use Rattle.listing.proofs.Written.{decimal_is}
 
 -- b does not stand in the list
 abbrev pub lacks : ℕ → List ℕ → Bool
-lacks b [] = true
-lacks b (c ∷ cs) = not (eqb c b) && lacks b cs
+lacks b bs = list_all (λ c. not (eqb c b)) bs
 
 pub lacks_append : (b : ℕ) (xs ys : List ℕ) → lacks b xs ≡ true → lacks b ys ≡ true → lacks b (xs ++ ys) ≡ true
-lacks_append b [] ys p q = q
-lacks_append b (x ∷ xs) ys p q =
-    let h = and_parts (not (eqb x b)) (lacks b xs) p in
-    and_from _ _ h.0 (lacks_append b xs ys h.1 q)
+lacks_append b xs ys p q = list_all-append (λ c. not (eqb c b)) xs ys ∙ and_from _ _ p q
+
+all_other : (b : ℕ) (bs : List ℕ) → lacks b bs ≡ true → All (λ c. eqb c b ≡ false) bs
+all_other b [] h = All-nil _
+all_other b (c ∷ cs) h =
+    let p = and_parts (not (eqb c b)) (lacks b cs) h in All-cons (λ x. eqb x b ≡ false) c cs (not-true _ p.0) (all_other b cs p.1)
 
 pub words_one : (w : List ℕ) → lacks 32 w ≡ true → words w ≡ w ∷ []
-words_one [] h = refl
-words_one (c ∷ cs) h =
-    let p = and_parts (not (eqb c 32)) (lacks 32 cs) h in
-    rw (not-true _ p.0) (ap (onto c) (words_one cs p.1))
+words_one w h = slice_split_none _ w (all_other 32 w h)
 
 pub words_first : (w rest : List ℕ) → lacks 32 w ≡ true → words (w ++ (32 ∷ rest)) ≡ w ∷ words rest
-words_first [] rest h = refl
-words_first (c ∷ cs) rest h =
-    let p = and_parts (not (eqb c 32)) (lacks 32 cs) h in
-    rw (not-true _ p.0) (ap (onto c) (words_first cs rest p.1))
+words_first w rest h = slice_split_at _ w 32 rest (all_other 32 w h) refl
 
 pub lines_first : (l rest : List ℕ) → lacks 10 l ≡ true → lines (l ++ (10 ∷ rest)) ≡ l ∷ lines rest
 lines_first [] rest h = refl
 lines_first (c ∷ cs) rest h =
     let p = and_parts (not (eqb c 10)) (lacks 10 cs) h in
-    rw (not-true _ p.0) (ap (onto c) (lines_first cs rest p.1))
-
--- numbers: only digits, no needless zero, and the number itself
-own : IsNumeralModel (λ ds. all_ascii_digits ds ≡ true) (read_on 0)
-own = numerals_by_fold _ (search rules) read_on (search rules)
+    rw (not-true _ p.0) (ap (onto_first c) (lines_first cs rest p.1))
 
 digits_lack : (b : ℕ) (ds : List ℕ) → b < 48 → all_ascii_digits ds ≡ true → lacks b ds ≡ true
 digits_lack b [] h p = refl

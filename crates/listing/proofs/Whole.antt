@@ -1,18 +1,21 @@
 -- A whole list, line by line.
-use Rattle.std.proofs.Common.{◌≡◌, ℕ, ◌+◌, ◌<◌, Bool, true, false, cond, not, ◌&&◌, leb, List, [], ◌∷◌, ◌++◌, map, length, Some, None, Ok, Err, codes, Option, Result, sym, refl, ap, ◌∙◌, ⊎_elim, append_assoc, arith}
+use Rattle.std.proofs.Common.{◌≡◌, ℕ, ◌+◌, ◌<◌, ◌≤◌, Bool, true, false, cond, not, ◌&&◌, eqb, leb, List, [], ◌∷◌, ◌++◌, map, length, Some, None, Ok, Err, codes, Option, Result, sym, refl, ap, ◌∙◌, ⊎_elim, append_assoc, arith}
 use Rattle.command.specs.declared.Command.{Command}
 use Rattle.command.specs.Commands.{well_formed}
 use Rattle.command.specs.Chains.{founding}
 use Rattle.command.specs.Members.{Membership, valid_chain, founded, different_directors, is_member}
 use Rattle.listing.specs.declared.faults.Fault.{Fault}
 use Rattle.listing.specs.declared.faults.Fault.TheVariants.{InvalidChain, IllFormed, Unreadable, Memory}
-use Rattle.listing.specs.Answers.{is_memory, director_byte, members_told, chain_told}
-use Rattle.std.proofs.lemmas.Bool.{cond-true, cond-false, cases_Bool, false≢true}
+use Rattle.listing.specs.Answers.{is_memory, as_byte, members_told, chain_told}
+use Rattle.std.proofs.lemmas.Bool.{cond-true, cond-false, cases_Bool, leb-true, leb-false, lt-leb, ne_eqb, and_parts}
 use Rattle.std.proofs.lemmas.List.{append-nil, length-map}
 use Rattle.listing.specs.Reading.{max16, then, entries_from, judged, before, directors, some_directors}
-use Rattle.listing.specs.Reading.{read_entry, read_chain, read_text, chain_of, listed, chained, read_lines}
+use Rattle.listing.specs.Reading.{read_entry, read_chain, read_text, listed, chained, read_lines}
 use Rattle.listing.specs.Pieces.{words, lines}
 use Rattle.std.specs.Str.{bytes_eq}
+use Rattle.std.specs.Option.{option_eq}
+use Rattle.std.specs.Iterator.{YieldsFirstRef}
+use Rattle.std.specs.Borrow.{Bor}
 use Rattle.listing.specs.Numbers.{numeral}
 
 -- the commands read so far, and then the others
@@ -23,7 +26,7 @@ after cs (Err f) = Err f
 -- the bytes read so far, and then the others
 abbrev pub bytes : Option (List ℕ) → Option (List ℕ)
 bytes None = None
-bytes (Some ds) = Some (map director_byte ds)
+bytes (Some ds) = Some (map as_byte ds)
 
 abbrev pub after_bytes : List ℕ → Option (List ℕ) → Option (List ℕ)
 after_bytes bs None = None
@@ -45,13 +48,17 @@ entries_more n l all ls c cs es o p q s t e =
     e ∙ ap (λ x. after cs (entries_from n x)) s ∙ ap (after cs) (u ∙ v) ∙ after_push cs c (entries_from (n + 1) ls) ∙
     ap (λ x. after x (entries_from (n + 1) ls)) (sym t)
 
+pub entries_end : (n : ℕ) (all left : List (List ℕ)) (cs : List Command) → left ≡ [] →
+    entries_from 2 all ≡ after cs (entries_from n left) → Ok cs ≡ entries_from 2 all
+entries_end n all left cs e h = sym (h ∙ ap (λ x. after cs (entries_from n x)) e ∙ ap Ok (append-nil cs))
+
 after_bytes_push : (bs : List ℕ) (d : ℕ) (o : Option (List ℕ)) →
-    after_bytes bs (bytes (then o (λ ds. Some (d ∷ ds)))) ≡ after_bytes (bs ++ (director_byte d ∷ [])) (bytes o)
+    after_bytes bs (bytes (then o (λ ds. Some (d ∷ ds)))) ≡ after_bytes (bs ++ (as_byte d ∷ [])) (bytes o)
 after_bytes_push bs d None = refl
-after_bytes_push bs d (Some ds) = ap Some (sym (append_assoc bs (director_byte d ∷ []) (map director_byte ds)))
+after_bytes_push bs d (Some ds) = ap Some (sym (append_assoc bs (as_byte d ∷ []) (map as_byte ds)))
 
 pub directors_more : (w : List ℕ) (all ws : List (List ℕ)) (d b : ℕ) (bs cs : List ℕ) (o : Option (List ℕ)) →
-    Some d ≡ numeral max16 w → all ≡ w ∷ ws → b ≡ director_byte d → cs ≡ bs ++ (b ∷ []) →
+    Some d ≡ numeral max16 w → all ≡ w ∷ ws → b ≡ as_byte d → cs ≡ bs ++ (b ∷ []) →
     o ≡ after_bytes bs (bytes (directors all)) → o ≡ after_bytes cs (bytes (directors ws))
 directors_more w all ws d b bs cs o p s q t e =
     let f : Option ℕ → Option (List ℕ) = λ x. then x (λ n. then (directors ws) (λ ds. Some (n ∷ ds))) in
@@ -85,25 +92,20 @@ abbrev pub from_number : Result Membership ℕ → Result Membership Fault
 from_number (Ok m) = Ok m
 from_number (Err n) = Err InvalidChain
 
-third : (a b c : Bool) → (a && b && c) ≡ true → c ≡ true
-third true true c h = h
-third true false c h = absurd (false≢true h)
-third false b c h = absurd (false≢true h)
+pub director_first : (m : ℕ) (ms : List ℕ) → different_directors (m ∷ ms) ≡ true →
+    (m ≤ 31) × (different_directors ms ≡ true)
+director_first m ms h =
+    let p = and_parts (leb m 31 && not (is_member m ms)) (different_directors ms) h in
+    (leb-true m 31 (and_parts (leb m 31) (not (is_member m ms)) p.0).0, p.1)
 
 -- the first line: its first word, and whether any follows
-pub chain_none : (line : List ℕ) (all : List (List ℕ)) → all ≡ words line → all ≡ [] → read_chain line ≡ None
+pub chain_word : (line : List ℕ) (all ws : List (List ℕ)) (r : Option (Bor (List ℕ))) (chain : Bor (List ℕ)) (b : Bool) →
+    all ≡ words line → YieldsFirstRef (λ ps. ps) all r ws → chain.now ≡ codes "chain" →
+    b ≡ not (option_eq (λ x y. bytes_eq x.now y.now) r (Some chain)) → read_chain line ≡ cond b None (some_directors ws)
 unfolding read_chain
-chain_none line all p q = ap chain_of (sym p ∙ q)
-
-pub chain_from : (line w : List ℕ) (all ws : List (List ℕ)) → all ≡ words line → all ≡ w ∷ ws →
-    bytes_eq w (codes "chain") ≡ true → read_chain line ≡ some_directors ws
-unfolding read_chain
-chain_from line w all ws p q t = ap chain_of (sym p ∙ q) ∙ cond-true _ _ _ t
-
-pub chain_other : (line w : List ℕ) (all ws : List (List ℕ)) → all ≡ words line → all ≡ w ∷ ws →
-    bytes_eq w (codes "chain") ≡ false → read_chain line ≡ None
-unfolding read_chain
-chain_other line w all ws p q t = ap chain_of (sym p ∙ q) ∙ cond-false _ _ _ t
+chain_word line all ws None chain b p s q h = rw (h, ← p, s.0) refl
+chain_word line all ws (Some w) chain b p s q h =
+    rw (h, ← p, s, q) (⊎_elim (λ e. rw e refl) (λ e. rw e refl) (cases_Bool (bytes_eq w.now (codes "chain"))))
 
 pub some_directors_is : (ws : List (List ℕ)) → 0 < length ws → some_directors ws ≡ directors ws
 some_directors_is [] h = absurd (omega arith)
@@ -114,51 +116,53 @@ no_directors [] h = refl
 no_directors (w ∷ ws) h = absurd (omega arith)
 
 -- bytes make a chain where the directors do, and the same one
-bytes_same : (ms : List ℕ) → different_directors ms ≡ true → map director_byte ms ≡ ms
+byte_is : (m : ℕ) → m ≤ 31 → as_byte m ≡ m
+byte_is m h = omega arith
+
+bytes_same : (ms : List ℕ) → different_directors ms ≡ true → map as_byte ms ≡ ms
 bytes_same [] h = refl
 bytes_same (m ∷ ms) h =
-    let d = third (leb m 31) (not (is_member m ms)) (different_directors ms) h in
-    ⊎_elim (λ e. rw (cond-true (leb m 31) m 255 e, bytes_same ms d) refl)
-    (λ e. absurd (false≢true (rw e at h))) (cases_Bool (leb m 31))
+    let p = director_first m ms h in rw (byte_is m p.0, bytes_same ms p.1) refl
 
-bytes_differ : (ms : List ℕ) → different_directors (map director_byte ms) ≡ different_directors ms
+byte_equal : (d m : ℕ) → d ≤ 31 → eqb (as_byte m) d ≡ eqb m d
+byte_equal d m h =
+    ⊎_elim (λ s. let k = leb-true m 255 s in
+    let z : as_byte m ≡ m = omega arith in rw z refl)
+    (λ s. let k = leb-false m 255 s in
+    let z : as_byte m ≡ 255 = omega arith in
+    rw z (ne_eqb 255 d (λ t. omega arith) ∙ sym (ne_eqb m d (λ t. omega arith)))) (cases_Bool (leb m 255))
+
+byte_among : (d : ℕ) → d ≤ 31 → (ms : List ℕ) → is_member d (map as_byte ms) ≡ is_member d ms
+byte_among d h [] = refl
+byte_among d h (m ∷ ms) = rw (byte_equal d m h, byte_among d h ms) refl
+
+bytes_differ : (ms : List ℕ) → different_directors (map as_byte ms) ≡ different_directors ms
 bytes_differ [] = refl
 bytes_differ (m ∷ ms) =
-    ⊎_elim
-    (λ e. ⊎_elim
-    (λ d. let b : director_byte m ≡ m = cond-true (leb m 31) m 255 e in rw (b, bytes_same ms d) refl)
-    (λ d. let b : director_byte m ≡ m = cond-true (leb m 31) m 255 e in
-    let f : different_directors (map director_byte ms) ≡ false = bytes_differ ms ∙ d in
-    rw (b, f, d) (both (leb m 31) _ _))
-    (cases_Bool (different_directors ms)))
-    (λ e. let b : director_byte m ≡ 255 = cond-false (leb m 31) m 255 e in rw (b, e) refl) (cases_Bool (leb m 31))
-  where
-    both : (c a b : Bool) → (c && a && false) ≡ (c && b && false)
-    both true true true = refl
-    both true true false = refl
-    both true false true = refl
-    both true false false = refl
-    both false a b = refl
+    ⊎_elim (λ e. let l = leb-true m 31 e in rw (byte_is m l, byte_among m l ms, bytes_differ ms) refl)
+    (λ e. let l = leb-false m 31 e in
+    let f : leb (as_byte m) 31 ≡ false = lt-leb _ _ (omega arith) in rw (f, e) refl)
+    (cases_Bool (leb m 31))
 
-bytes_valid : (ms : List ℕ) → valid_chain (map director_byte ms) ≡ valid_chain ms
-bytes_valid ms = rw (length-map ms director_byte, bytes_differ ms) refl
+bytes_valid : (ms : List ℕ) → valid_chain (map as_byte ms) ≡ valid_chain ms
+bytes_valid ms = rw (length-map ms as_byte, bytes_differ ms) refl
 
 pub chain_told_is : (o : Option (List ℕ)) (bs : List ℕ) (r : Result Membership ℕ) → Ok bs ≡ members_told o →
     r ≡ founding bs → chain_told o ≡ from_number r
 chain_told_is None bs r p q = let z : ◌≡◌ {A = ℕ} 0 1 = cc in absurd (omega arith)
 chain_told_is (Some ms) bs r p q =
-    let b : bs ≡ map director_byte ms = cc in
-    let f : r ≡ founding (map director_byte ms) = q ∙ ap founding b in
+    let b : bs ≡ map as_byte ms = cc in
+    let f : r ≡ founding (map as_byte ms) = q ∙ ap founding b in
     ⊎_elim
     (λ e. cond-true (valid_chain ms) (Ok (founded ms)) (Err InvalidChain) e ∙
     sym (ap from_number (f ∙ ap founding (bytes_same ms (different ms e)) ∙
     cond-true (valid_chain ms) (Ok (founded ms)) (Err 11) e)))
     (λ e. cond-false (valid_chain ms) (Ok (founded ms)) (Err InvalidChain) e ∙
-    sym (ap from_number (f ∙ cond-false (valid_chain (map director_byte ms)) _ (Err 11) (bytes_valid ms ∙ e))))
+    sym (ap from_number (f ∙ cond-false (valid_chain (map as_byte ms)) _ (Err 11) (bytes_valid ms ∙ e))))
     (cases_Bool (valid_chain ms))
   where
     different : (ms : List ℕ) → valid_chain ms ≡ true → different_directors ms ≡ true
-    different ms h = third (leb 1 (length ms)) (leb (length ms) 7) (different_directors ms) h
+    different ms h = (and_parts (leb 1 (length ms) && leb (length ms) 7) (different_directors ms) h).1
 
 -- the whole text: no line, a first line at fault, a later line at fault, and a list
 pub text_none : (text : List ℕ) (all : List (List ℕ)) → all ≡ lines text → all ≡ [] → read_text text ≡ Err (Unreadable 1)

@@ -5,6 +5,7 @@ use journal::Entry;
 
 /// A message from one director to another, with any content. Which fields count depends on the kind; the others are
 /// sent as 0 or blank and are ignored.
+// Plain numbers for kind, sender and hearer: whatever comes in is a message, and `hear` tells what is wrong in it.
 #[derive(Clone, Copy, PartialEq, Eq, Debug)]
 pub struct Message {
     pub kind: u8,
@@ -23,6 +24,14 @@ pub struct Message {
 pub struct Acknowledged {
     pub ballot: u32,
     pub set: DirectorSet,
+}
+
+impl Acknowledged {
+    /// Nothing is known of who put the slot.
+    pub const NONE: Acknowledged = Acknowledged {
+        ballot: 0,
+        set: DirectorSet::EMPTY,
+    };
 }
 
 /// What an accepted call answers: how many messages it wrote to the table, how many slots are settled now, and the

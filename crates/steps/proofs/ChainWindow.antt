@@ -3,8 +3,7 @@ use Rattle.std.proofs.Common.{◌≡◌, ℕ, ◌+◌, ◌-◌, ◌%◌, ◌≤�
 use Rattle.std.proofs.lemmas.List.{length-append, take-append-le, take_all}
 use Rattle.std.proofs.lemmas.Bool.{cases_lt}
 use Rattle.command.specs.declared.Command.{Command}
-use Rattle.command.specs.declared.chains.Chain.{Chain}
-use Rattle.command.specs.Chains.{membership, after, after_all, chain_for}
+use Rattle.command.specs.Chains.{after, after_all, chain_for}
 use Rattle.command.specs.Members.{Membership}
 use Rattle.journal.specs.declared.writes.Write.TheVariants.{Settle}
 use Rattle.journal.specs.Meaning.{Meaning, taken, step, after as written}
@@ -34,17 +33,17 @@ last_chain : (f : Membership) (cs : List Command) → chain_for f cs (length cs 
 last_chain f cs = ap (after_all f) (take_all (length cs + 8 - 8) cs (omega arith))
 
 -- place i is that of the last slot, place j that of the next one
-pub tells_more : (f : Membership) (cs : List Command) (c : Command) (places : List Chain) (p i j : ℕ)
-    (last next : Chain) → length places ≡ 8 → i ≡ p % 8 → j ≡ (p + 1) % 8
+pub tells_more : (f : Membership) (cs : List Command) (c : Command) (places : List Membership) (p i j : ℕ)
+    (last next : Membership) → length places ≡ 8 → i ≡ p % 8 → j ≡ (p + 1) % 8
     → Tells f cs (record { places = places; settled = p })
-    → last ≡ get_or places i last → membership next ≡ after (membership last) c
+    → last ≡ get_or places i last → next ≡ after last c
     → Tells f (cs ++ (c ∷ [])) (record { places = set places j next; settled = p + 1 })
 tells_more f cs c places p i j last next eight low high tells read is =
     let count = tells.count in
     let l = length-append cs (c ∷ []) in
     let place : i ≡ (length cs + 8) % 8 = omega arith in
-    let before : membership last ≡ after_all f cs =
-    ap membership (read ∙ ap (λ (k : ℕ). get_or places k last) place)
+    let before : last ≡ after_all f cs =
+    read ∙ ap (λ (k : ℕ). get_or places k last) place
     ∙ tells.each (length cs + 8) last (omega arith) (omega arith) ∙ last_chain f cs in
     subst (λ (k : ℕ). Tells f (cs ++ (c ∷ [])) (record { places = set places k next; settled = p + 1 })) (sym high)
     (record {
@@ -52,12 +51,11 @@ tells_more f cs c places p i j last next eight low high tells read is =
       each = λ n other above near.
           elim (cases_lt n (length cs + 9)) [
             | inl inside ↦
-                ap membership
-                (placed_other other next places (length cs) n (p + 1) (omega arith) (omega arith) (omega arith)
-                (omega arith) (λ e. omega arith))
+                placed_other other next places (length cs) n (p + 1) (omega arith) (omega arith) (omega arith)
+                (omega arith) (λ e. omega arith)
                 ∙ tells.each n other (omega arith) (omega arith) ∙ same_chain f cs c n (omega arith)
             | inr past ↦
-                ap membership (placed_next other next places n (p + 1) eight (omega arith))
+                placed_next other next places n (p + 1) eight (omega arith)
                 ∙ is ∙ ap (λ (m : Membership). after m c) before ∙ new_chain f cs c n (omega arith)
           ];
     })

@@ -1,7 +1,6 @@
 -- The memory of the code as the definitions have it.
 use Rattle.std.specs.Prelude.{List, vec_items}
 use Rattle.command.specs.declared.Command.{Command}
-use Rattle.command.specs.Chains.{membership}
 use Rattle.journal.specs.declared.writes.Entry.{Entry}
 use Rattle.protocol.specs.Desks.{State, following, standing}
 use Rattle.protocol.specs.Desks as desks
@@ -18,7 +17,7 @@ abbrev pub view : Memory → State
 view m =
     record {
       number = m.number;
-      founding = membership m.founding;
+      founding = m.founding;
       role = role_of m.role (vec_items m.line) m.reports;
       acks = m.acks;
     }

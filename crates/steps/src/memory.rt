@@ -1,6 +1,6 @@
 //! What a director remembers between calls, but for its journal.
 
-ghost use Rattle.std.specs.Prelude.{◌≤◌, vec_len, vec_capacity};
+ghost use Rattle.std.specs.Prelude.{◌≡◌, ◌≤◌, length, vec_len, vec_capacity};
 
 use command::{Chain, Command, DirectorSet};
 use journal::Entry;
@@ -25,4 +25,5 @@ pub struct Memory {
     ghost director: { number ≤ 31 },
     ghost few: { vec_len line ≤ 16 },
     ghost room: { 16 ≤ vec_capacity line },
+    ghost eight: { length acks ≡ 8 },
 }

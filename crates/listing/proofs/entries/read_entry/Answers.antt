@@ -1,52 +1,40 @@
-use Rattle.std.proofs.Common.{codes, sym, ◌∙◌}
-use Rattle.listing.specs.Answers.{words_left}
-use Rattle.listing.proofs.Lined as lined
+use Rattle.std.proofs.Common.{◌≡◌, sym, ap, ◌∷◌, ◌∙◌, rules}
+use Rattle.std.specs.Str.{IsUtf8}
+use Rattle.listing.specs.Reading.{entry_of}
+use Rattle.listing.proofs.Lined.{entry_none, entry_from, entry_other, entry_untold}
 use Rattle.listing.proofs.entries.read_entry.Goals as goal
 
-pub returns-in_err-first : goal.returns-in_err-first
-returns-in_err-first c =
-    c.from_residual.ensures ∙
-    sym (lined.entry_none c.args.line.now _ c.of-words.ensures c.in_err-first.ensures.0)
+pub returns-in_err-next : goal.returns-in_err-next
+returns-in_err-next c =
+    c.from_residual.ensures ∙ sym (entry_none c.args.line.now _ c.words-words.ensures c.in_err-next.ensures.steps.0)
 
-pub returns-then-eq : goal.returns-then-eq
-returns-then-eq c =
-    c.end.ensures ∙
-    sym (lined.entry_from c.args.line.now _ _ _ c.of-words.ensures c.in_ok-first.ensures ∙
-    lined.entry_noop c.in_ok-first.first.now (words_left c.next.new.self)
-    (lined.word_told _ (codes "noop") _ _ c.as_slice.ensures c.if-eq.ensures))
+pub returns-in_err-ok : goal.returns-in_err-ok
+returns-in_err-ok c =
+    let n : IsUtf8 c.in_ok-next.field-0.now → ⊥ = λ u. search rules in
+    c.from_residual-in_err-ok.ensures ∙ sym (entry_from c.args.line.now _ _ _ c.words-words.ensures c.in_ok-next.ensures.steps ∙ entry_untold _ _ n)
 
-pub returns-then-eq-2 : goal.returns-then-eq-2
-returns-then-eq-2 c =
-    c.read_member.ensures ∙
-    sym (lined.entry_from c.args.line.now _ _ _ c.of-words.ensures c.in_ok-first.ensures ∙
-    lined.entry_add c.in_ok-first.first.now (words_left c.next.new.self)
-    (lined.word_told _ (codes "noop") _ _ c.as_slice.ensures c.if-eq.ensures)
-    (lined.word_told _ (codes "add") _ _ c.as_slice-2.ensures c.if-eq-2.ensures))
+pub returns-in-noop : goal.returns-in-noop
+returns-in-noop c =
+    let t : c.in_ok-ok.field-0.now ≡ c.in_ok-next.field-0.now = search rules in
+    c.end.ensures ∙ ap (λ w. entry_of (w ∷ c.next.new.self)) (sym c.in-noop.is ∙ t) ∙ sym (entry_from c.args.line.now _ _ _ c.words-words.ensures c.in_ok-next.ensures.steps)
 
-pub returns-then-eq-3 : goal.returns-then-eq-3
-returns-then-eq-3 c =
-    c.read_member-then-eq-3.ensures ∙
-    sym (lined.entry_from c.args.line.now _ _ _ c.of-words.ensures c.in_ok-first.ensures ∙
-    lined.entry_remove c.in_ok-first.first.now (words_left c.next.new.self)
-    (lined.word_told _ (codes "noop") _ _ c.as_slice.ensures c.if-eq.ensures)
-    (lined.word_told _ (codes "add") _ _ c.as_slice-2.ensures c.if-eq-2.ensures)
-    (lined.word_told _ (codes "remove") _ _ c.as_slice-3.ensures c.if-eq-3.ensures))
+pub returns-in-add : goal.returns-in-add
+returns-in-add c =
+    let t : c.in_ok-ok.field-0.now ≡ c.in_ok-next.field-0.now = search rules in
+    c.read_member.ensures ∙ ap (λ w. entry_of (w ∷ c.next.new.self)) (sym c.in-add.is ∙ t) ∙ sym (entry_from c.args.line.now _ _ _ c.words-words.ensures c.in_ok-next.ensures.steps)
 
-pub returns-then-eq-4 : goal.returns-then-eq-4
-returns-then-eq-4 c =
-    c.read_change.ensures ∙
-    sym (lined.entry_from c.args.line.now _ _ _ c.of-words.ensures c.in_ok-first.ensures ∙
-    lined.entry_change c.in_ok-first.first.now (words_left c.next.new.self)
-    (lined.word_told _ (codes "noop") _ _ c.as_slice.ensures c.if-eq.ensures)
-    (lined.word_told _ (codes "add") _ _ c.as_slice-2.ensures c.if-eq-2.ensures)
-    (lined.word_told _ (codes "remove") _ _ c.as_slice-3.ensures c.if-eq-3.ensures)
-    (lined.word_told _ (codes "change") _ _ c.as_slice-4.ensures c.if-eq-4.ensures))
+pub returns-in-remove : goal.returns-in-remove
+returns-in-remove c =
+    let t : c.in_ok-ok.field-0.now ≡ c.in_ok-next.field-0.now = search rules in
+    c.read_member-in-remove.ensures ∙ ap (λ w. entry_of (w ∷ c.next.new.self)) (sym c.in-remove.is ∙ t) ∙ sym (entry_from c.args.line.now _ _ _ c.words-words.ensures c.in_ok-next.ensures.steps)
 
-pub returns : goal.returns
-returns c =
-    sym (lined.entry_from c.args.line.now _ _ _ c.of-words.ensures c.in_ok-first.ensures ∙
-    lined.entry_other c.in_ok-first.first.now (words_left c.next.new.self)
-    (lined.word_told _ (codes "noop") _ _ c.as_slice.ensures c.if-eq.ensures)
-    (lined.word_told _ (codes "add") _ _ c.as_slice-2.ensures c.if-eq-2.ensures)
-    (lined.word_told _ (codes "remove") _ _ c.as_slice-3.ensures c.if-eq-3.ensures)
-    (lined.word_told _ (codes "change") _ _ c.as_slice-4.ensures c.if-eq-4.ensures))
+pub returns-in-change : goal.returns-in-change
+returns-in-change c =
+    let t : c.in_ok-ok.field-0.now ≡ c.in_ok-next.field-0.now = search rules in
+    c.read_change.ensures ∙ ap (λ w. entry_of (w ∷ c.next.new.self)) (sym c.in-change.is ∙ t) ∙ sym (entry_from c.args.line.now _ _ _ c.words-words.ensures c.in_ok-next.ensures.steps)
+
+pub returns-in_default : goal.returns-in_default
+returns-in_default c =
+    let t : c.in_ok-ok.field-0.now ≡ c.in_ok-next.field-0.now = search rules in
+    let n = c.in_default in
+    sym (entry_from c.args.line.now _ _ _ c.words-words.ensures c.in_ok-next.ensures.steps ∙ entry_other _ _ (λ e. n.not-noop (t ∙ e)) (λ e. n.not-add (t ∙ e)) (λ e. n.not-remove (t ∙ e)) (λ e. n.not-change (t ∙ e)))

@@ -1,20 +1,11 @@
-use Rattle.std.proofs.Common.{codes, sym, ap}
-use Rattle.listing.specs.Answers.{members_told}
-use Rattle.listing.proofs.Lined.{word_told}
-use Rattle.listing.proofs.Whole as whole
+use Rattle.std.proofs.Common.{refl}
+use Rattle.listing.proofs.Whole.{chain_word}
 use Rattle.listing.proofs.lists.read_members.Goals as goal
 
-pub returns-in_default : goal.returns-in_default
-returns-in_default c =
-    sym (ap members_told (whole.chain_none c.args.line.now _ c.of-words.ensures c.in_default.ensures.0))
-
-pub returns-then-eq : goal.returns-then-eq
-returns-then-eq c =
-    rw (whole.chain_from c.args.line.now _ _ _ c.of-words.ensures c.in-Some.ensures
-    (word_told _ (codes "chain") _ _ c.as_slice.ensures c.if-eq.ensures))
-    c.read_directors.ensures
+pub returns-then-ne : goal.returns-then-ne
+returns-then-ne c =
+    rw (chain_word c.args.line.now _ _ _ c.as_slice.result _ c.words-words.ensures c.next.ensures.steps c.as_slice.ensures c.if-ne.ensures) refl
 
 pub returns : goal.returns
 returns c =
-    sym (ap members_told (whole.chain_other c.args.line.now _ _ _ c.of-words.ensures c.in-Some.ensures
-    (word_told _ (codes "chain") _ _ c.as_slice.ensures c.if-eq.ensures)))
+    rw (chain_word c.args.line.now _ _ _ c.as_slice.result _ c.words-words.ensures c.next.ensures.steps c.as_slice.ensures c.if-ne.ensures) c.read_directors.ensures

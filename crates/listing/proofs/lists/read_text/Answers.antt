@@ -1,36 +1,48 @@
-use Rattle.std.proofs.Common.{length, sym, refl, ap, arith}
+use Rattle.std.proofs.Common.{◌≡◌, Some, None, Err, length, sym, ap, arith, rules}
 use Rattle.std.proofs.lemmas.Result.{err_from_is_err_and}
-use Rattle.listing.specs.Answers.{lines_left}
+use Rattle.listing.specs.declared.faults.Fault.TheVariants.{Unreadable}
 use Rattle.listing.specs.Reading.{read_chain}
 use Rattle.listing.proofs.Cutting.{length_lines}
 use Rattle.listing.proofs.Whole.{text_none, text_from, chain_fault, entry_fault, text_list}
 use Rattle.listing.proofs.lists.read_text.Goals as goal
 
-pub returns-in_default : goal.returns-in_default
-returns-in_default c = sym (text_none c.args.text.now _ refl c.in_default.ensures.0)
+pub returns-in_err-first : goal.returns-in_err-first
+returns-in_err-first c =
+    let fault : c.from_residual.result ≡ Err (Unreadable 1) = search rules in
+    let none : c.next.result ≡ None = search rules in
+    rw fault (sym (text_none c.args.text.now _ c.lines-lines.ensures (rw none at c.next.ensures.steps).0))
 
 pub returns-in_err-chain : goal.returns-in_err-chain
 returns-in_err-chain c =
-    let p = err_from_is_err_and c.from_residual.result c.from_residual.ensures.1 in
+    let some : c.next.result ≡ Some c.in_ok-first.first = search rules in
+    let p = err_from_is_err_and c.from_residual-in_err-chain.result c.from_residual-in_err-chain.ensures.1 in
     rw (p.1, p.2)
-    (chain_fault _ (read_chain c.in-Some.first.now) (lines_left c.next.new.self) _
-    (text_from c.args.text.now _ _ _ refl c.in-Some.ensures) c.in_err-chain.ensures)
+    (chain_fault _ (read_chain c.in_ok-first.first.now) c.next.new.self _
+    (text_from c.args.text.now _ _ _ c.lines-lines.ensures (rw some at c.next.ensures.steps)) c.in_err-chain.ensures)
+
+pub read_entries-requires : goal.read_entries-requires
+read_entries-requires c =
+    let some : c.next.result ≡ Some c.in_ok-first.first = search rules in
+    omega (
+      arith,
+      length_lines c.args.text.now,
+      ap length c.lines-lines.ensures,
+      ap length (rw some at c.next.ensures.steps),
+    )
 
 pub returns-in_err-commands : goal.returns-in_err-commands
 returns-in_err-commands c =
+    let some : c.next.result ≡ Some c.in_ok-first.first = search rules in
     let f = c.from_residual-in_err-commands in
     let p = err_from_is_err_and f.result f.ensures.1 in
     rw (p.1, p.2)
-    (entry_fault _ (read_chain c.in-Some.first.now) (lines_left c.next.new.self) _ _
-    (text_from c.args.text.now _ _ _ refl c.in-Some.ensures)
+    (entry_fault _ (read_chain c.in_ok-first.first.now) c.next.new.self _ _
+    (text_from c.args.text.now _ _ _ c.lines-lines.ensures (rw some at c.next.ensures.steps))
     c.in_ok-chain.ensures c.in_err-commands.ensures)
 
 pub returns : goal.returns
 returns c =
-    text_list _ (read_chain c.in-Some.first.now) (lines_left c.next.new.self) _ _
-    (text_from c.args.text.now _ _ _ refl c.in-Some.ensures)
+    let some : c.next.result ≡ Some c.in_ok-first.first = search rules in
+    text_list _ (read_chain c.in_ok-first.first.now) c.next.new.self _ _
+    (text_from c.args.text.now _ _ _ c.lines-lines.ensures (rw some at c.next.ensures.steps))
     c.in_ok-chain.ensures c.in_ok-commands.ensures
-
-pub read_entries-requires : goal.read_entries-requires
-read_entries-requires c =
-    omega (arith, length_lines c.args.text.now, ap length c.in-Some.ensures)

@@ -2,7 +2,7 @@ use Rattle.std.proofs.Common.{ℕ, List, vec_items, sym, ap, ◌∙◌, subst₂
 use Rattle.std.proofs.lemmas.Result.{err_from_is_err_and}
 use Rattle.command.specs.declared.Command.{Command}
 use Rattle.command.specs.Members.{valid_chain}
-use Rattle.command.specs.Chains.{membership, after_all}
+use Rattle.command.specs.Chains.{after_all}
 use Rattle.archive.specs.Layout.{Archive}
 use Rattle.listing.specs.Answers.{list_of}
 use Rattle.yearbook.proofs.Listing.{read_sound, unsealed}
@@ -31,7 +31,7 @@ returns c =
           c.in_ok-file.ensures;
       entries = c.len.ensures ∙ c.in_ok-list.list.commands.ok.0;
       chain = c.after_all-chain.ensures
-          ∙ ap (after_all (membership c.in_ok-list.list.chain)) c.as_slice-2.ensures.value;
+          ∙ ap (after_all c.in_ok-list.list.chain) c.as_slice-2.ensures.value;
     }
 
 pub returns-in_err-list : goal.returns-in_err-list

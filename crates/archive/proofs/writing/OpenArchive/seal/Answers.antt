@@ -25,9 +25,9 @@ returns c =
     let area = c.args.area.now in
     let o = c.args.self in
     let taken : seal_refusal area o ≡ None = cond-true _ None (Some NoSpace) (sym c.if-not-has_room.ensures) in
-    let written = c.write_u16.ensures ∙ ap (λ x. left x area (over area o.at (le 2 o.count))) (sym taken) in
+    let written = c.write_le.ensures ∙ ap (λ x. left x area (over area o.at (le 2 o.count))) (sym taken) in
     record {
       answer = ap (λ x. answer (λ e. (o, e)) x (sealed o)) (sym taken);
       writes = written;
-      run = λ ms cs r. sealing area c.write_u16.new.area o ms cs written r;
+      run = λ ms cs r. sealing area c.write_le.new.area o ms cs written r;
     }

@@ -1,0 +1,30 @@
+use Rattle.std.proofs.Common.{◌≡◌, eqb, rules, sym, ap, ◌∙◌}
+use borrow.Author.Tests.{tests}
+use Rattle.std.specs.List.{position}
+use Rattle.std.proofs.lemmas.Iterator.{YieldsList-from_slice}
+use Rattle.std.proofs.lemmas.Iterator.Search.{position_from_yields_List}
+use Rattle.listing.specs.Pieces.{pieces_left}
+use Rattle.listing.proofs.Cutting.{piece_some, piece_none}
+use Rattle.listing.proofs.cuts.PiecesIterator.next.Goals as goal
+
+pub returns-in-Some-clause-steps : goal.returns-in-Some-clause-steps
+returns-in-Some-clause-steps c =
+    let e : c.position.result ≡ position (λ b. eqb b c.self.inside.mark) c.in_ok-rest.rest.now =
+    position_from_yields_List (λ b. eqb b c.self.inside.mark) _ _ c.position.result c.position.ensures.ran
+    (YieldsList-from_slice c.in_ok-rest.rest.now c.iter.ensures.rest) (λ x b q k. search (rules, tests)) in
+    sym c.self.view_is ∙ ap (pieces_left c.self.inside.mark) c.in_ok-rest.was ∙
+    piece_some _ _ _ (sym c.in-Some.is ∙ e)
+
+pub returns-in-Some-clause-goes : goal.returns-in-Some-clause-goes
+returns-in-Some-clause-goes c = let s = returns-in-Some-clause-steps c in search rules
+
+pub returns-in-None-clause-steps : goal.returns-in-None-clause-steps
+returns-in-None-clause-steps c =
+    let e : c.position.result ≡ position (λ b. eqb b c.self.inside.mark) c.in_ok-rest.rest.now =
+    position_from_yields_List (λ b. eqb b c.self.inside.mark) _ _ c.position.result c.position.ensures.ran
+    (YieldsList-from_slice c.in_ok-rest.rest.now c.iter.ensures.rest) (λ x b q k. search (rules, tests)) in
+    sym c.self.view_is ∙ ap (pieces_left c.self.inside.mark) c.in_ok-rest.was ∙
+    piece_none _ _ (sym c.in-None.is ∙ e)
+
+pub returns-in-None-clause-goes : goal.returns-in-None-clause-goes
+returns-in-None-clause-goes c = let s = returns-in-None-clause-steps c in search rules
