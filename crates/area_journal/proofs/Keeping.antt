@@ -6,7 +6,7 @@ use Rattle.std.proofs.lemmas.List.{with_items_is}
 use Rattle.journal.specs.declared.writes.Write.{Write}
 use Rattle.journal.specs.Meaning.{Writes, taken}
 use Rattle.area_journal.specs.declared.areas.AreaJournal.{AreaJournal}
-use Rattle.area_journal.specs.declared.faults.OpenFault.{OpenFault}
+use Rattle.area_journal.specs.declared.faults.NotOpened.{NotOpened}
 use Rattle.area_journal.specs.Journals.{bytes_of, tells, may_lie_behind, Opens, Again}
 use Rattle.area_journal.specs.Opening.{is_sound, fault}
 use Rattle.area_journal.proofs.Checks.{some_none}
@@ -38,7 +38,7 @@ writes_does w old new r d =
     }
 
 -- the bytes of a journal, opened again
-pub opened_again : (area : List ℕ) → fault area ≡ None → (x : Result AreaJournal (Vec ℕ Global × OpenFault))
+pub opened_again : (area : List ℕ) → fault area ≡ None → (x : Result AreaJournal NotOpened)
     → Opens area x
     → Again (meaning_of area) x
 opened_again area sound (Ok j) o = ap meaning_of o.1

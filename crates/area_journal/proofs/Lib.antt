@@ -3,6 +3,7 @@ pub mod Questions
 pub mod Places
 pub mod Meanings
 pub mod Writes
+pub mod Placed
 pub mod Puts
 pub mod Settles
 pub mod Doing

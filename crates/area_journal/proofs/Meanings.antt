@@ -12,8 +12,8 @@ use Rattle.std.proofs.lemmas.Bool.Decides.{nat_tests}
 use Rattle.octets.specs.Areas.{over}
 use Rattle.octets.specs.Numbers.{le}
 use Rattle.journal.specs.Windows.{place_of}
-use Rattle.area_journal.specs.Layout.{record_bytes, records_at, record_at, place_at, count_at, command_bytes, blank_bytes}
-use Rattle.area_journal.specs.Reading.{capacity_of, count_of, command_in, meaning_of}
+use Rattle.area_journal.specs.Layout.{command_of, record_bytes, records_at, record_at, place_at, count_at, command_bytes, blank_bytes}
+use Rattle.area_journal.specs.Reading.{capacity_of, count_of, record_in, command_in, meaning_of}
 use Rattle.area_journal.specs.Opening.{is_sound}
 use Rattle.area_journal.specs.Writing.{written, Does}
 use Rattle.area_journal.proofs.Checks.{Sound, sound_from}
@@ -24,6 +24,14 @@ pub same_counted : {X : Type 0} (f g : ℕ → X) (k : ℕ) → ((i : ℕ) → i
 same_counted f g k h =
     fill_by_all g (map f (range_with_len 0 k)) k (f 0) (length-map-range_with_len f 0 k)
     (λ i l. get_or-map-range_with_len f 0 k i i (f 0) l (omega arith) ∙ h i l)
+
+-- the settled commands of an area with the same count and records
+pub settled_same : (area new : List ℕ) → count_of new ≡ count_of area
+    → ((i : ℕ) → i < count_of area → record_in new i ≡ record_in area i)
+    → map (command_in new) (range_with_len 0 (count_of new)) ≡ map (command_in area) (range_with_len 0 (count_of area))
+settled_same area new e h =
+    ap (λ (k : ℕ). map (command_in new) (range_with_len 0 k)) e
+    ∙ same_counted (command_in new) (command_in area) (count_of area) (λ i l. ap command_of (h i l))
 
 pub set_counted : {X : Type 0} (f g : ℕ → X) (k j : ℕ) (x : X) → j < k → g j ≡ x
     → ((i : ℕ) → i < k → (i ≡ j → ⊥) → g i ≡ f i)

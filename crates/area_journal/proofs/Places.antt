@@ -1,16 +1,11 @@
 -- What the bytes of records and places hold, and when they are in order.
-use Rattle.std.proofs.Common.{◌≡◌, ℕ, ◌+◌, ◌%◌, ◌^◌, ◌<◌, ◌≤◌, Bool, true, ◌&&◌, eqb, ltb, leb, List, refl, ap, ◌∙◌, inl, inr, arith}
-use Rattle.std.specs.Str.{bytes_eq}
-use Rattle.std.proofs.lemmas.Slice.Eq.{bytes_eq-Decides}
-use Rattle.std.proofs.lemmas.Bool.{and_from, eq-eqb, or_cases, or_left, or_right}
+use Rattle.std.proofs.Common.{◌≡◌, ℕ, ◌+◌, ◌%◌, ◌^◌, ◌<◌, ◌≤◌, Bool, true, ◌&&◌, eqb, ltb, leb, List, refl, arith}
 use Rattle.std.proofs.lemmas.Bool.Decides.{nat_tests}
-use Rattle.octets.specs.Areas.{part}
 use Rattle.octets.proofs.Numbers.{num_le}
 use Rattle.command.specs.declared.Command.{Command}
 use Rattle.command.specs.Commands.{well_formed, serial_bytes, Sized}
 use Rattle.area_journal.specs.Layout.{command_bytes, entry_bytes, blank_bytes, command_of, slot_of, entry_of}
-use Rattle.area_journal.specs.Layout.{record_bytes}
-use Rattle.area_journal.specs.Opening.{record_good, is_held, place_good}
+use Rattle.area_journal.specs.Opening.{record_good, place_good}
 
 -- a command is read again from its bytes
 pub command_read : (c : Command) → Sized c → command_of (command_bytes c) ≡ c

@@ -44,3 +44,18 @@ impl fmt::Display for OpenFault {
 }
 
 impl Error for OpenFault {}
+
+/// An area that was not opened, just as it was handed in, and why.
+#[derive(PartialEq, Eq, Debug, Drop)]
+pub struct NotOpened {
+    pub area: Vec<u8>,
+    pub fault: OpenFault,
+}
+
+impl fmt::Display for NotOpened {
+    fn fmt<W: fmt::Write>(&self, f: &mut fmt::Formatter<W>) -> fmt::Result {
+        write!(f, "{}", self.fault)
+    }
+}
+
+impl Error for NotOpened {}

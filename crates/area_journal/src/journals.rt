@@ -6,30 +6,29 @@ ghost use Rattle.area_journal.specs.Opening.{fault};
 ghost use Rattle.area_journal.specs.Reading.{meaning_of};
 ghost use Rattle.area_journal.specs.Writing.{Does};
 ghost use Rattle.journal.specs.Meaning.{Writes};
-ghost use Rattle.std.specs.Prelude.{◌≡◌, ℕ, None, Result, Vec};
+ghost use Rattle.std.specs.Prelude.{◌≡◌, None, Result};
 ghost use Rattle.area_journal.specs.declared.areas.AreaJournal.{AreaJournal};
-ghost use Rattle.area_journal.specs.declared.faults.OpenFault.{OpenFault};
-ghost use Rattle.std.specs.declared.alloc.Global.{Global};
+ghost use Rattle.area_journal.specs.declared.faults.NotOpened.{NotOpened};
 ghost use Rattle.area_journal.specs.Within.{within_of};
 
 use crate::checking::{check, in_window};
 use crate::layout::{command_of, entry_of};
 use crate::parts::Parts;
 use crate::writing::make;
-use crate::{AreaJournal, OpenFault};
+use crate::{AreaJournal, NotOpened};
 use command::Command;
 use journal::{Entry, Journal, SPAN, Write};
 
 impl AreaJournal {
     /// Takes an area with any content as a journal, or hands it back with the first fault: refusal 12 where it has no
     /// space for a record, else 13 with the offset of the first part that is not in order. No byte is altered.
-    pub fn open(area: Vec<u8>) -> Result<AreaJournal, (Vec<u8>, OpenFault)>
+    pub fn open(area: Vec<u8>) -> Result<AreaJournal, NotOpened>
         ensures opens { Opens area.items result }
         ensures exact { Exact area.items }
     {
         match check(&area) {
             Ok(()) => Ok(AreaJournal { area }),
-            Err(fault) => Err((area, fault)),
+            Err(fault) => Err(NotOpened { area, fault }),
         }
     }
 
@@ -45,7 +44,7 @@ impl AreaJournal {
         ensures does { Does write (bytes_of self.old) (bytes_of self.new) result }
         ensures writes { Writes tells may_lie_behind write self.old self.new result }
     {
-        let taken = self.takes(&write);
+        let taken = self.takes(write);
         if taken {
             make(&mut self.area, write);
         }
@@ -57,7 +56,7 @@ impl AreaJournal {
     pub fn release(self) -> Vec<u8>
         ensures bytes { result.items ≡ bytes_of self }
         ensures sound { fault result.items ≡ None }
-        ensures again { (x : Result AreaJournal (Vec ℕ Global × OpenFault)) → Opens result.items x
+        ensures again { (x : Result AreaJournal NotOpened) → Opens result.items x
             → Again (meaning_of (bytes_of self)) x }
     {
         let AreaJournal { area } = self;

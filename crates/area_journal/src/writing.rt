@@ -17,20 +17,20 @@ use octets::{Number, write_bytes};
 impl AreaJournal {
     // Whether a write is taken.
     #[tactic(auto, unfolding(journal::specs::Meaning::taken))]
-    pub(crate) fn takes(&self, write: &Write) -> bool
-        ensures { result ≡ taken write.now (meaning_of (bytes_of self.now)) }
+    pub(crate) fn takes(&self, write: Write) -> bool
+        ensures { result ≡ taken write (meaning_of (bytes_of self.now)) }
     {
         match write {
-            Write::Promise { ballot } => self.promised() <= *ballot,
+            Write::Promise { ballot } => self.promised() <= ballot,
             Write::Put {
                 slot,
                 ballot,
                 command,
             } => {
-                *ballot == self.promised()
-                    && 1 <= *ballot
-                    && in_window(self.settled_count(), *slot)
-                    && *slot <= self.capacity()
+                ballot == self.promised()
+                    && 1 <= ballot
+                    && in_window(self.settled_count(), slot)
+                    && slot <= self.capacity()
                     && command.is_well_formed()
             }
             Write::Settle { command } => {

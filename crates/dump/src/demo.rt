@@ -21,8 +21,8 @@ pub(crate) fn run(rt: &HostRuntime) -> anyhow::Result<()> {
     }
     match AreaJournal::open(broken) {
         Ok(_) => fail(rt, PROGRAM, &"the broken area was opened"),
-        Err((_, fault)) => {
-            println!(rt; "with one byte changed: {PROGRAM}: {fault}")?;
+        Err(refused) => {
+            println!(rt; "with one byte changed: {PROGRAM}: {refused}")?;
             Ok(())
         }
     }

@@ -31,8 +31,8 @@ fn run(rt: &HostRuntime) -> anyhow::Result<()> {
 // Opens the area in a file and prints it.
 fn dump(rt: &HostRuntime, file: &str) -> anyhow::Result<()> {
     let area = or_fail_at(rt, PROGRAM, file, fs::read(rt, file))?;
-    let opened = AreaJournal::open(area).map_err(|(_, fault)| fault);
-    print(rt, &or_fail(rt, PROGRAM, opened)?)
+    let journal = or_fail(rt, PROGRAM, AreaJournal::open(area))?;
+    print(rt, &journal)
 }
 
 /// Prints a journal.
