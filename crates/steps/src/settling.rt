@@ -75,12 +75,12 @@ impl Memory {
 }
 
 // Applies a command if it is for the machine; the last answer is then the machine's.
-fn run<M: Machine>(machine: &mut M, command: &Command, answer: u16) -> u16
+fn run<M: Machine>(machine: &mut M, command: &Command, answer: Option<u16>) -> Option<u16>
     ensures { (M.state machine.new, result)
         ≡ ran M.rule (M.state machine.old, answer) (command.now ∷ []) }
 {
     if Verb::try_from(command.verb) == Ok(Verb::Change) {
-        machine.apply(command)
+        Some(machine.apply(command))
     } else {
         answer
     }
