@@ -8,7 +8,7 @@ ghost use Rattle.steps.specs.Views.{view};
 ghost use Rattle.std.specs.Prelude.{◌≡◌, [], ◌∷◌};
 
 use crate::desks::Desk;
-use crate::memory::Memory;
+use crate::memory::{Memory, Role};
 use command::{Command, Verb};
 use journal::{Entry, Journal};
 use machine::Machine;
@@ -67,10 +67,9 @@ impl Memory {
             places: &mut self.acks,
         }
         .put(slot, Acknowledged::NONE);
-        Window {
-            places: &mut self.reports,
+        if let Role::Standing { reports, .. } = &mut self.role {
+            Window { places: reports }.put(slot, Entry::BLANK);
         }
-        .put(slot, Entry::BLANK);
     }
 }
 
