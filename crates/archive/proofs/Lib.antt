@@ -1,8 +1,10 @@
 pub mod OneEntry
+pub mod Parts
 pub mod Scans
 pub mod Files
 pub mod Runs
 pub mod Calls
+pub mod Writes
 pub mod Walks
 pub mod Opening
 pub mod WholeLists

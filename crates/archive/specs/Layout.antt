@@ -1,10 +1,10 @@
 -- The layout of an archive file: what it holds, byte by byte, for a founding chain and a list of commands.
 use Rattle.std.specs.Prelude.{◌≡◌, ℕ, ◌≤◌, true, List, [], ◌∷◌, ◌++◌, length, Some, None, Option}
-use Rattle.std.specs.List.{flat_map, AllByRecursion}
+use Rattle.std.specs.List.{flat_map, All, AllPass}
 use Rattle.octets.specs.Numbers.{le}
 use Rattle.command.specs.declared.Command.{Command}
-use Rattle.command.specs.declared.Verb.{Verb}
-use Rattle.command.specs.declared.Verb.TheVariants.{Noop, Add, Remove, Change}
+use Rattle.command.specs.declared.verbs.Verb.{Verb}
+use Rattle.command.specs.declared.verbs.Verb.TheVariants.{Noop, Add, Remove, Change}
 use Rattle.command.specs.Commands.{verb_of, well_formed, serial_bytes, Sized}
 use Rattle.command.specs.Members.{valid_chain}
 
@@ -47,6 +47,6 @@ layout ms cs = header ms ++ (entries cs ++ le count_bytes (length cs))
 pub record Archive (file ms : List ℕ) (cs : List Command) : Type 0 where
   pub laid : file ≡ layout ms cs
   pub chain : valid_chain ms ≡ true
-  pub formed : AllByRecursion (λ c. well_formed c ≡ true) cs
-  pub sized : AllByRecursion Sized cs
+  pub formed : AllPass well_formed cs
+  pub sized : All Sized cs
   pub few : length cs ≤ most

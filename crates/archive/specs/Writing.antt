@@ -32,6 +32,10 @@ abbrev pub left : Option Refusal → List ℕ → List ℕ → List ℕ
 left None area written = written
 left (Some e) area written = area
 
+-- how many bytes the entry of a command takes, if it may stand in a list
+abbrev pub entry_size : Command → Option ℕ
+entry_size c = cond (well_formed c) (Some (length (entry c))) None
+
 -- begin
 abbrev pub begin_refusal : List ℕ → List ℕ → Option Refusal
 begin_refusal area ms =

@@ -1,28 +1,28 @@
 //! Entries of an archive file, one after another.
 
-ghost use Rattle.std.specs.Prelude.{◌≡◌, ℕ, ◌+◌, ◌-◌, ◌<◌, ◌≤◌, true, length, Some};
+ghost use Rattle.std.specs.Prelude.{◌≡◌, ℕ, ◌+◌, ◌-◌, ◌≤◌, true, length, Some, IsSome};
 ghost use Rattle.archive.specs.Layout.{entry};
-ghost use Rattle.archive.specs.Readers.{shown};
-ghost use Rattle.archive.specs.Reading.{size_of, command_as, command_of, first_command, decoded, rest, entry_at};
+ghost use Rattle.archive.specs.Reading.{size_of, command_as, command_of, decoded};
 ghost use Rattle.command.specs.Commands.{well_formed, serial_bytes, Sized};
 ghost use Rattle.command.specs.declared.Command.{Command};
-ghost use Rattle.command.specs.declared.Verb.TheVariants.{Change};
+ghost use Rattle.command.specs.declared.verbs.Verb.TheVariants.{Change};
 
-use command::{Command, SERIAL_BYTES, Verb, read_serial};
-use octets::read_u16;
+use command::{Command, SERIAL_BYTES, Serial, UnknownVerb, Verb};
+use octets::Number;
 
 /// An entry: the part of the file that holds it, and the offset where it begins.
-#[derive(Clone, Copy)]
+#[derive(Clone, Copy, PartialEq, Eq, Hash, Debug)]
 pub struct Entry<'a> {
     pub offset: usize,
     pub bytes: &'a [u8],
 }
 
 /// The entries that are still to come.
-#[derive(Clone, Copy)]
+#[derive(Clone, Copy, Debug)]
 pub struct Entries<'a> {
     pub(crate) rest: &'a [u8],
     pub(crate) end: usize,
+    ghost within: { length rest.now ≤ end },
 }
 
 impl Entry<'_> {
@@ -33,86 +33,57 @@ impl Entry<'_> {
             → self.now.bytes.now ≡ entry c → result ≡ Some c }
     {
         let bytes = self.bytes;
-        if bytes.is_empty() || size_of(bytes) != bytes.len() {
+        if size_of(bytes)? != bytes.len() {
             return None;
         }
         Some(command_of(bytes))
     }
 }
 
-impl<'a> Entries<'a> {
-    /// The next entry, if there is one.
-    pub fn next(&mut self) -> Option<Entry<'a>>
-        ensures answer { shown result ≡ entry_at 1 self.old.end self.old.rest.now }
-        ensures after { self.new.rest.now ≡ rest self.old.rest.now }
-        ensures same { self.new.end ≡ self.old.end }
+impl Entries<'_> {
+    // The offset where what is left begins.
+    pub(crate) fn offset(&self) -> usize
+        ensures { result ≡ self.now.end - length self.now.rest.now }
     {
-        let bytes = self.rest;
-        let size = size_of(bytes);
-        if size == 0 {
-            return None;
-        }
-        self.rest = &bytes[size..];
-        Some(Entry {
-            offset: self.end.saturating_sub(bytes.len()),
-            bytes: &bytes[0..size],
-        })
+        self.end - self.rest.len()
     }
 }
 
-impl Entries<'_> {
-    /// The command of the next entry, if there is one.
-    pub fn next_command(&mut self) -> Option<Command>
-        ensures answer { result ≡ first_command self.old.rest.now }
-        ensures after { self.new.rest.now ≡ rest self.old.rest.now }
-        ensures same { self.new.end ≡ self.old.end }
-    {
-        let front = self.rest;
-        let size = size_of(front);
-        if size == 0 {
-            return None;
-        }
-        self.rest = &front[size..];
-        Some(command_of(front))
+impl<'a> Iterator for Entries<'a> {
+    ghost use Rattle.std.specs.Iterator.{at_most};
+    ghost use Rattle.archive.specs.Readers.{Gives};
+
+    type Item = Entry<'a>;
+
+    ghost next_gives = { Gives };
+
+    ghost remaining = { λ s. at_most (length s.rest.now) };
+
+    /// The next entry, if there is one.
+    #[tactic(auto, using(crate::proofs::Parts::part_told))]
+    fn next(&mut self) -> Option<Entry<'a>> {
+        let size = size_of(self.rest)?;
+        let offset = self.offset();
+        let (bytes, rest) = self.rest.split_at(size);
+        self.rest = rest;
+        Some(Entry { offset, bytes })
     }
 }
 
 // The command that the entry at the front of these bytes tells.
 fn command_of(bytes: &[u8]) -> Command
-    requires { 0 < size_of bytes.now }
+    requires { IsSome (size_of bytes.now) }
     ensures { result ≡ command_of bytes.now }
 {
     let verb = bytes[0];
-    match Verb::of(verb) {
-        None => Command {
-            verb: 0,
-            origin: 0,
-            serial: 0,
-            a: 0,
-            b: 0,
-        },
-        Some(Verb::Noop) => Command {
-            verb: 0,
-            origin: 0,
-            serial: 0,
-            a: 0,
-            b: 0,
-        },
-        Some(Verb::Add) => Command {
-            verb: 1,
-            origin: 0,
-            serial: 0,
+    match Verb::try_from(verb) {
+        Err(UnknownVerb(_)) | Ok(Verb::Noop) => Command::NOOP,
+        Ok(Verb::Add | Verb::Remove) => Command {
+            verb,
             a: bytes[1] as u16,
-            b: 0,
+            ..Command::NOOP
         },
-        Some(Verb::Remove) => Command {
-            verb: 2,
-            origin: 0,
-            serial: 0,
-            a: bytes[1] as u16,
-            b: 0,
-        },
-        Some(Verb::Change) => change_of(bytes),
+        Ok(Verb::Change) => change_of(bytes),
     }
 }
 
@@ -123,28 +94,27 @@ fn change_of(bytes: &[u8]) -> Command
 {
     Command {
         verb: bytes[0],
-        origin: read_u16(bytes, 1),
-        serial: read_serial(bytes, 3),
-        a: read_u16(bytes, 3 + SERIAL_BYTES),
-        b: read_u16(bytes, 5 + SERIAL_BYTES),
+        origin: u16::read_le(bytes, 1),
+        serial: Serial::read_le(bytes, 3),
+        a: u16::read_le(bytes, 3 + SERIAL_BYTES),
+        b: u16::read_le(bytes, 5 + SERIAL_BYTES),
     }
 }
 
-// The size of the entry that these bytes begin with, 0 where they begin with none.
-pub(crate) fn size_of(bytes: &[u8]) -> usize
+// The size of the entry that these bytes begin with, if they begin with one.
+fn size_of(bytes: &[u8]) -> Option<usize>
     ensures { result ≡ size_of bytes.now }
 {
-    let (verb, a) = match bytes {
-        [] => return 0,
-        [verb] => (*verb, 0),
-        [verb, a, ..] => (*verb, *a),
+    let (verb, others) = bytes.split_first()?;
+    let size = match Verb::try_from(*verb).ok()? {
+        Verb::Noop => 1,
+        Verb::Add | Verb::Remove => {
+            if *others.first()? > 31 {
+                return None;
+            }
+            2
+        }
+        Verb::Change => 7 + SERIAL_BYTES,
     };
-    let size = match Verb::of(verb) {
-        None => 0,
-        Some(Verb::Noop) => 1,
-        Some(Verb::Add) => if a <= 31 { 2 } else { 0 },
-        Some(Verb::Remove) => if a <= 31 { 2 } else { 0 },
-        Some(Verb::Change) => 7 + SERIAL_BYTES,
-    };
-    if size <= bytes.len() { size } else { 0 }
+    (size <= bytes.len()).then_some(size)
 }

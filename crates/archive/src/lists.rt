@@ -5,13 +5,34 @@ ghost use Rattle.archive.specs.Lists.{Wrote, space_for, EnoughSpace};
 
 use crate::{COUNT_BYTES, HEADER_BYTES, OpenArchive, Refusal, SealedArchive};
 use command::{Command, SERIAL_BYTES};
+use std::error::Error;
+use std::fmt;
 
-/// Why a list was not written: the entry that was refused, counted from 1, or 0 for the chain, and the refusal.
-#[derive(Clone, Copy, PartialEq, Eq, Debug)]
-pub struct ListRefusal {
-    pub entry: usize,
-    pub refusal: Refusal,
+/// Why a list was not written: the call that was refused, and its refusal.
+#[derive(Clone, Copy, PartialEq, Eq, Hash, Debug)]
+pub enum ListRefusal {
+    /// The beginning: the chain is not valid, or there is no space for it.
+    Begin(Refusal),
+    /// An entry, counted from 1.
+    Entry { number: usize, refusal: Refusal },
 }
+
+impl fmt::Display for ListRefusal {
+    fn fmt<W: fmt::Write>(&self, f: &mut fmt::Formatter<W>) -> fmt::Result {
+        match self {
+            ListRefusal::Begin(refusal) => write!(f, "refused {}: {refusal}", refusal.number()),
+            ListRefusal::Entry { number, refusal } => {
+                write!(
+                    f,
+                    "refused {} at entry {number}: {refusal}",
+                    refusal.number()
+                )
+            }
+        }
+    }
+}
+
+impl Error for ListRefusal {}
 
 /// How many bytes an area needs to have space for the archive of so many members and any so many commands, if that is
 /// a number of bytes that an area can have.
@@ -25,6 +46,7 @@ pub fn space_for(members: usize, commands: usize) -> Option<usize>
 
 /// Writes the archive of this chain and these commands at the front of the area: begin, an add for each, and seal.
 /// Where an entry is refused, the archive is struck.
+#[tactic(auto, using(crate::proofs::Space::enough_space))]
 pub fn write_list(
     area: &mut [u8],
     members: &[u8],
@@ -34,17 +56,14 @@ pub fn write_list(
         area.old area.new result }
     ensures space { EnoughSpace }
 {
-    let mut open = match OpenArchive::begin(area, members) {
-        Ok(open) => open,
-        Err(refusal) => return Err(ListRefusal { entry: 0, refusal }),
-    };
+    let mut open = OpenArchive::begin(area, members).map_err(ListRefusal::Begin)?;
     for (i, command) in commands.iter().enumerate() {
         open = match open.add(area, command) {
             Ok(open) => open,
             Err((open, refusal)) => {
                 open.strike(area);
-                return Err(ListRefusal {
-                    entry: i + 1,
+                return Err(ListRefusal::Entry {
+                    number: i + 1,
                     refusal,
                 });
             }
@@ -52,9 +71,10 @@ pub fn write_list(
     }
     match open.seal(area) {
         Ok(sealed) => Ok(sealed),
+        // Each add left room for the count, so this does not happen; and an open archive cannot be let go.
         Err((open, _)) => {
             open.strike(area);
-            unreachable()
+            unreachable!()
         }
     }
 }

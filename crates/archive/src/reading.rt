@@ -1,32 +1,34 @@
 //! The reader: it borrows the file, checks every part once, and then tells what the file holds.
 
-ghost use Rattle.std.specs.Prelude.{◌≡◌, ℕ, ◌-◌, ◌≤◌, List, length};
+ghost use Rattle.std.specs.Prelude.{◌≡◌, ℕ, List, length, None};
 ghost use Rattle.archive.specs.Layout.{Archive};
-ghost use Rattle.archive.specs.Readers.{refusal_number, shown, Reads, Opens, Exact, Counts};
-ghost use Rattle.archive.specs.Reading.{fault, has_mark, scan_all, entry_at, entry_of};
+ghost use Rattle.archive.specs.Reading.{refusal_number, offset_of, fault, scanned, scan_all, counted, members_of, start_of, count_at, body_of, entry_at, entry_of};
 ghost use Rattle.command.specs.declared.Command.{Command};
-ghost use Rattle.std.specs.Str.{bytes_eq};
 
-use crate::entries::size_of;
 use crate::{COUNT_BYTES, Entries, Entry, HEADER_BYTES, MARK, is_chain};
-use octets::read_u16;
+use octets::Number;
+use std::error::Error;
+use std::fmt;
 
 // The length of the shortest file: mark, a chain of one member, no entries, and the count.
 const SHORTEST: usize = 8;
 
-/// A file that was found whole, by its parts.
-#[derive(Clone, Copy)]
+/// A file that was found whole.
+#[derive(Clone, Copy, Debug)]
 pub struct Reader<'a> {
-    members: &'a [u8],
-    body: &'a [u8],
-    end: usize,
+    pub file: &'a [u8],
     count: usize,
+    ghost whole: { fault file.now ≡ None },
+    ghost counted: { count ≡ length (scanned file.now).commands },
 }
 
-/// Why a file was refused (refusal 15): the offset of its first broken part.
-#[derive(Clone, Copy, PartialEq, Eq, Debug)]
-pub struct Broken {
-    pub offset: usize,
+/// Why a file was refused (refusal 15): the first of its parts that is broken.
+#[derive(Clone, Copy, PartialEq, Eq, Hash, Debug)]
+pub enum Broken {
+    Mark,
+    Chain,
+    Entry { offset: usize },
+    Count { offset: usize },
 }
 
 impl Broken {
@@ -36,114 +38,113 @@ impl Broken {
     {
         15
     }
+
+    /// The offset where the broken part begins.
+    pub fn offset(self) -> usize
+        ensures { result ≡ offset_of self }
+    {
+        match self {
+            Broken::Mark => 0,
+            Broken::Chain => 4,
+            Broken::Entry { offset } | Broken::Count { offset } => offset,
+        }
+    }
 }
 
+impl fmt::Display for Broken {
+    fn fmt<W: fmt::Write>(&self, f: &mut fmt::Formatter<W>) -> fmt::Result {
+        let part = match self {
+            Broken::Mark => "the file does not begin as an archive",
+            Broken::Chain => "the founding chain is not valid",
+            Broken::Entry { .. } => "the entry that begins here is broken",
+            Broken::Count { .. } => "the count is not that of the entries",
+        };
+        write!(f, "refused {} at {}: {part}", self.number(), self.offset())
+    }
+}
+
+impl Error for Broken {}
+
 impl<'a> Reader<'a> {
-    /// Checks mark, chain, entries and count, in this order. Refusal 15 tells the offset of the first broken part.
+    ghost use Rattle.archive.specs.Readers.{shown, Opens, Exact};
+
+    /// Checks mark, chain, entries and count, in this order. Refusal 15 tells the first broken part.
+    #[tactic(auto, using(crate::proofs::Files::exact_file))]
     pub fn open(file: &'a [u8]) -> Result<Reader<'a>, Broken>
-        ensures opens { Opens file.now (fault file.now) result }
+        ensures opens { Opens file.now result }
         ensures exact { Exact file.now }
     {
-        if file.len() < SHORTEST {
-            return Err(Broken { offset: 0 });
-        }
-        if !has_mark(file) {
-            return Err(Broken { offset: 0 });
+        if file.len() < SHORTEST || !file.starts_with(&MARK) {
+            return Err(Broken::Mark);
         }
         let end = file.len() - COUNT_BYTES;
         let start = HEADER_BYTES + file[4] as usize;
-        if start > end {
-            return Err(Broken { offset: 4 });
+        if start > end || !is_chain(&file[HEADER_BYTES..start]) {
+            return Err(Broken::Chain);
         }
-        let members = &file[HEADER_BYTES..start];
-        if !is_chain(members) {
-            return Err(Broken { offset: 4 });
+        let rest = &file[start..end];
+        let count = count_entries(Entries { rest, end })?;
+        if u16::read_le(file, end) as usize != count {
+            return Err(Broken::Count { offset: end });
         }
-        let body = &file[start..end];
-        let count = count_entries(body, end)?;
-        if read_u16(file, end) as usize != count {
-            return Err(Broken { offset: end });
-        }
-        Ok(Reader {
-            members,
-            body,
-            end,
-            count,
-        })
+        Ok(Reader { file, count })
     }
 
     /// The founding chain's members, a part of the file.
     pub fn members(&self) -> &'a [u8]
-        ensures { result.now ≡ self.now.members.now }
+        ensures { result.now ≡ members_of self.now.file.now }
     {
-        self.members
+        &self.file[HEADER_BYTES..self.start()]
     }
 
     /// How many entries the file has.
     pub fn count(&self) -> usize
-        ensures { result ≡ self.now.count }
+        ensures { result ≡ length (scanned self.now.file.now).commands }
     {
         self.count
     }
 
     /// All entries in their order.
     pub fn entries(&self) -> Entries<'a>
-        ensures rest { result.rest.now ≡ self.now.body.now }
-        ensures end { result.end ≡ self.now.end }
+        ensures rest { result.rest.now ≡ body_of self.now.file.now }
+        ensures end { result.end ≡ count_at self.now.file.now }
     {
-        Entries {
-            rest: self.body,
-            end: self.end,
-        }
+        let end = self.file.len() - COUNT_BYTES;
+        let rest = &self.file[self.start()..end];
+        Entries { rest, end }
+    }
+
+    // Where the entries begin.
+    fn start(&self) -> usize
+        ensures { result ≡ start_of self.now.file.now }
+    {
+        HEADER_BYTES + self.file[4] as usize
     }
 
     /// Entry n, counted from 1, as its offset and its bytes, a part of the file, if there is one.
     pub fn entry(&self, n: usize) -> Option<Entry<'a>>
-        ensures answer { shown result ≡ entry_at n self.now.end self.now.body.now }
-        ensures meaning { (f ms : List ℕ) (cs : List Command) → Reads f self.now → Archive f ms cs
+        ensures answer { shown result
+            ≡ entry_at n (count_at self.now.file.now) (body_of self.now.file.now) }
+        ensures meaning { (ms : List ℕ) (cs : List Command) → Archive self.now.file.now ms cs
             → shown result ≡ entry_of ms cs n }
     {
-        if n == 0 {
-            return None;
-        }
-        let mut entries = self.entries();
-        for _i in 1..n {
-            entries.next()?;
-        }
-        entries.next()
+        self.entries().nth(n.checked_sub(1)?)
     }
 }
 
-// Whether a file of at least four bytes begins with the mark.
-fn has_mark(file: &[u8]) -> bool
-    requires { 4 ≤ length file.now }
-    ensures { result ≡ has_mark file.now }
+// How many entries are to come, or the first broken one.
+fn count_entries(entries: Entries) -> Result<usize, Broken>
+    ensures { result ≡ counted (scan_all entries.entry.end entries.entry.rest.now) }
 {
-    same_bytes(&file[0..4], &MARK)
-}
-
-// How many entries there are in these bytes, which end at this offset, or where the first broken one is.
-fn count_entries(body: &[u8], end: usize) -> Result<usize, Broken>
-    ensures { Counts (scan_all end body.now) result }
-{
-    let mut rest = body;
+    let mut left = entries;
     let mut count = 0;
-    while !rest.is_empty() {
-        let size = size_of(rest);
-        if size == 0 {
-            return Err(Broken {
-                offset: end.saturating_sub(rest.len()),
-            });
-        }
-        rest = &rest[size..];
+    while left.next().is_some() {
         count += 1;
     }
+    if !left.rest.is_empty() {
+        return Err(Broken::Entry {
+            offset: left.offset(),
+        });
+    }
     Ok(count)
-}
-
-// Whether two parts hold the same bytes.
-fn same_bytes(a: &[u8], b: &[u8]) -> bool
-    ensures { result ≡ bytes_eq a.now b.now }
-{
-    a == b
 }

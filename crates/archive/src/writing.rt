@@ -1,36 +1,38 @@
 //! The writer: an open archive that grows entry by entry and is spent by seal or strike.
 
-ghost use Rattle.std.specs.Prelude.{◌≡◌, ◌+◌, ◌<◌, ◌≤◌, true, [], ◌∷◌, length, replicate, Some};
+ghost use Rattle.std.specs.Prelude.{◌≡◌, ◌+◌, ◌<◌, ◌≤◌, true, length, replicate, Some};
 ghost use Rattle.archive.specs.Layout.{header, entry};
-ghost use Rattle.archive.specs.Writing.{refusal_number, has_room, Begins, Adds, Seals};
+ghost use Rattle.archive.specs.Writing.{refusal_number, has_room, entry_size, Begins, Adds, Seals};
 ghost use Rattle.octets.specs.Areas.{over};
-ghost use Rattle.command.specs.Commands.{verb_of, well_formed, serial_bytes, Sized};
-ghost use Rattle.command.specs.declared.Verb.TheVariants.{Change};
+ghost use Rattle.command.specs.Commands.{well_formed, Sized};
 
 use crate::{COUNT_BYTES, HEADER_BYTES, MARK, is_chain};
-use command::{Command, SERIAL_BYTES, Serial, Verb, write_serial};
-use octets::{write_bytes, write_u8, write_u16};
+use command::{Command, SERIAL_BYTES, UnknownVerb, Verb};
+use octets::{Number, write_bytes};
+use std::error::Error;
+use std::fmt;
 
 /// An archive that is being written: where its next part goes, and how many entries it has. It tells no length,
 /// and it cannot be let go: seal or strike ends it.
+#[derive(PartialEq, Eq, Debug)]
 pub struct OpenArchive {
     at: usize,
     count: u16,
 }
 
 /// A finished archive: the first `length` bytes of its area are the file.
-#[derive(Drop)]
+#[derive(Drop, PartialEq, Eq, Debug)]
 pub struct SealedArchive {
     length: usize,
 }
 
 /// Why the writer refused a call; nothing was written then.
-#[derive(Clone, Copy, PartialEq, Eq, Debug)]
+#[derive(Clone, Copy, PartialEq, Eq, Hash, Debug)]
 pub enum Refusal {
-    IllFormed,
-    InvalidChain,
-    NoSpace,
-    Full,
+    IllFormed = 5,
+    InvalidChain = 11,
+    NoSpace = 14,
+    Full = 16,
 }
 
 impl Refusal {
@@ -38,14 +40,22 @@ impl Refusal {
     pub fn number(self) -> u8
         ensures { result ≡ refusal_number self }
     {
-        match self {
-            Refusal::IllFormed => 5,
-            Refusal::InvalidChain => 11,
-            Refusal::NoSpace => 14,
-            Refusal::Full => 16,
-        }
+        self as u8
     }
 }
+
+impl fmt::Display for Refusal {
+    fn fmt<W: fmt::Write>(&self, f: &mut fmt::Formatter<W>) -> fmt::Result {
+        f.write_str(match self {
+            Refusal::IllFormed => "the command is not well formed",
+            Refusal::InvalidChain => "a chain is 1 to 7 different directors from 0 to 31",
+            Refusal::NoSpace => "the area has no space for it",
+            Refusal::Full => "an archive holds at most 65,535 entries",
+        })
+    }
+}
+
+impl Error for Refusal {}
 
 impl OpenArchive {
     /// Writes mark and founding chain at the front of the area. Refusals 11 (no valid chain) and 14 (no space).
@@ -72,23 +82,15 @@ impl OpenArchive {
     ) -> Result<OpenArchive, (OpenArchive, Refusal)>
         ensures { Adds area.old self command.now area.new result }
     {
-        if !command.is_well_formed() {
+        let Some(size) = entry_size(command) else {
             return Err((self, Refusal::IllFormed));
-        }
-        if self.count >= u16::MAX {
+        };
+        if self.count == u16::MAX {
             return Err((self, Refusal::Full));
         }
-        let size = entry_size(command);
         if !has_room(area, self.at, size) {
             return Err((self, Refusal::NoSpace));
         }
-        know_widths(
-            command.verb,
-            command.origin,
-            command.serial,
-            command.a,
-            command.b,
-        );
         let OpenArchive { at, count } = self;
         write_entry(area, at, command);
         Ok(OpenArchive {
@@ -105,7 +107,7 @@ impl OpenArchive {
             return Err((self, Refusal::NoSpace));
         }
         let OpenArchive { at, count } = self;
-        write_u16(area, at, count);
+        count.write_le(area, at);
         Ok(SealedArchive {
             length: at + COUNT_BYTES,
         })
@@ -131,17 +133,13 @@ impl SealedArchive {
 
 // Whether this many more bytes from offset `at` on, and the count after them, lie within the area.
 fn has_room(area: &[u8], at: usize, size: usize) -> bool
-    requires { size < 1000 }
     ensures { result ≡ has_room area.now at size }
 {
-    let tail = size + COUNT_BYTES;
-    tail <= area.len() && at <= area.len() - tail
+    area.len()
+        .checked_sub(at)
+        .and_then(|left| left.checked_sub(COUNT_BYTES))
+        .is_some_and(|left| size <= left)
 }
-
-// Does nothing: a number of a type lies within its width, which the proof of `add` needs of a command's fields.
-fn know_widths(verb: u8, origin: u16, serial: Serial, a: u16, b: u16)
-    ensures { Sized (record { verb = verb; origin = origin; serial = serial; a = a; b = b }) }
-{}
 
 // Writes mark, length and members.
 fn write_header(area: &mut [u8], members: &[u8])
@@ -149,59 +147,49 @@ fn write_header(area: &mut [u8], members: &[u8])
     ensures { area.new ≡ over area.old 0 (header members.now) }
 {
     write_bytes(area, 0, &MARK);
-    write_u8(area, 4, members.len() as u8);
-    write_bytes(area, 5, members);
+    write_bytes(area, 4, &[members.len() as u8]);
+    write_bytes(area, HEADER_BYTES, members);
 }
 
-// How many bytes the entry of a command takes.
-fn entry_size(command: &Command) -> usize
-    ensures size { result ≡ length (entry command.now) }
-    ensures small { result < 1000 }
+// How many bytes the entry of a command takes, if it may stand in a list.
+fn entry_size(command: &Command) -> Option<usize>
+    ensures { result ≡ entry_size command.now }
 {
-    match Verb::of(command.verb) {
-        None => 0,
-        Some(Verb::Noop) => 1,
-        Some(Verb::Add) => 2,
-        Some(Verb::Remove) => 2,
-        Some(Verb::Change) => 7 + SERIAL_BYTES,
+    if !command.is_well_formed() {
+        return None;
     }
+    let size = match Verb::try_from(command.verb).ok()? {
+        Verb::Noop => 1,
+        Verb::Add | Verb::Remove => 2,
+        Verb::Change => 7 + SERIAL_BYTES,
+    };
+    Some(size)
 }
 
-// Writes the entry of a command.
+// Writes the entry of a command. A command of the code has fields that fit their widths.
 fn write_entry(area: &mut [u8], at: usize, command: &Command)
     requires formed { well_formed command.now ≡ true }
     requires within { at + length (entry command.now) ≤ length area.old }
-    ensures { area.new ≡ over area.old at (entry command.now) }
+    ensures written { area.new ≡ over area.old at (entry command.now) }
+    ensures sized { Sized command.now }
 {
-    match Verb::of(command.verb) {
-        None => {}
-        Some(Verb::Noop) => write_u8(area, at, command.verb),
-        Some(Verb::Add) => write_membership(area, at, command),
-        Some(Verb::Remove) => write_membership(area, at, command),
-        Some(Verb::Change) => write_change(area, at, command),
+    let Command {
+        verb,
+        origin,
+        serial,
+        a,
+        b,
+    } = *command;
+    match Verb::try_from(verb) {
+        Err(UnknownVerb(_)) => {}
+        Ok(Verb::Noop) => write_bytes(area, at, &[verb]),
+        Ok(Verb::Add | Verb::Remove) => write_bytes(area, at, &[verb, a as u8]),
+        Ok(Verb::Change) => {
+            write_bytes(area, at, &[verb]);
+            origin.write_le(area, at + 1);
+            serial.write_le(area, at + 3);
+            a.write_le(area, at + 3 + SERIAL_BYTES);
+            b.write_le(area, at + 5 + SERIAL_BYTES);
+        }
     }
-}
-
-// Writes the entry of an add or a remove: verb and director.
-fn write_membership(area: &mut [u8], at: usize, command: &Command)
-    requires low { command.now.a ≤ 31 }
-    requires within { at + 2 ≤ length area.old }
-    ensures { area.new
-        ≡ over area.old at (command.now.verb ∷ command.now.a ∷ []) }
-{
-    write_u8(area, at, command.verb);
-    write_u8(area, at + 1, command.a as u8);
-}
-
-// Writes the entry of a change for the machine: all fields.
-fn write_change(area: &mut [u8], at: usize, command: &Command)
-    requires kind { verb_of command.now.verb ≡ Some Change }
-    requires within { at + 7 + serial_bytes ≤ length area.old }
-    ensures { area.new ≡ over area.old at (entry command.now) }
-{
-    write_u8(area, at, command.verb);
-    write_u16(area, at + 1, command.origin);
-    write_serial(area, at + 3, command.serial);
-    write_u16(area, at + 3 + SERIAL_BYTES, command.a);
-    write_u16(area, at + 5 + SERIAL_BYTES, command.b);
 }

@@ -83,3 +83,12 @@ pub record Within (m : Meaning) : Type 0 where
   pub most : m.capacity ≤ 60000
   pub held : settled_count m ≤ m.capacity
   pub eight : length m.places ≡ span
+
+-- what a write does to a journal, by its meaning and the lists of taken writes that may lie behind it: it answers
+-- whether it was taken and leaves what a step leaves, and behind what it leaves may lie each list that did before it,
+-- with the write at its end if it was taken
+pub record Writes {J : Type 0} (meaning : J → Meaning) (lies : J → List Write → Type 0) (w : Write) (old new : J)
+    (r : Bool) : Type 0 where
+  pub answer : r ≡ taken w (meaning old)
+  pub after : meaning new ≡ step w (meaning old)
+  pub behind : (ws : List Write) → lies old ws → lies new (ws ++ wrote w (meaning old))

@@ -1,6 +1,5 @@
 -- The window rule: an element for each of the eight slots p + 1 to p + 8, where p slots are settled, kept in eight
--- places
--- by slot mod 8. It is the same for every kind of element.
+-- places by slot mod 8. It is the same for every kind of element.
 use Rattle.std.specs.Prelude.{ℕ, ◌+◌, ◌%◌, Bool, ◌&&◌, List, nat_le, nat_lt, slice_index_or, slice_set}
 
 -- how many slots a window has

@@ -4,8 +4,8 @@
 
 mod writes;
 
-ghost use Rattle.std.specs.Prelude.{◌≡◌, ℕ, ◌≤◌, List, ◌++◌, length};
-ghost use Rattle.journal.specs.Meaning.{Meaning, open_of, settled_of, step, taken, wrote, Within};
+ghost use Rattle.std.specs.Prelude.{◌≡◌, List, length};
+ghost use Rattle.journal.specs.Meaning.{Meaning, open_of, settled_of, Writes, Within};
 ghost use Rattle.journal.specs.declared.writes.Write.TheVariants.{Promise, Put, Settle};
 ghost use Rattle.journal.specs.declared.writes.Write.{Write};
 
@@ -15,7 +15,10 @@ pub use writes::{Entry, Write, make_write};
 /// The most slots that a journal can have.
 pub const MOST_SLOTS: u32 = 60_000;
 
-/// A journal: a capacity, a promised ballot, a settled list, and an open entry for each of the eight slots after it.
+/// How many slots after the settled ones have an open entry: the window, kept in so many places by slot mod `SPAN`.
+pub const SPAN: usize = 8;
+
+/// A journal: a capacity, a promised ballot, a settled list, and an open entry for each of the `SPAN` slots after it.
 /// Questions change nothing. A write answers whether it was taken, and one that was not changes nothing.
 pub trait Journal {
     ghost meaning: { Self → Meaning };
@@ -46,26 +49,15 @@ pub trait Journal {
 
     /// Promises a ballot that is not below the promised one.
     fn promise(&mut self, ballot: u32) -> bool
-        ensures answer { result ≡ taken (Promise ballot) (meaning self.old) }
-        ensures after { meaning self.new ≡ step (Promise ballot) (meaning self.old) }
-        ensures behind { (ws : List Write) → behind self.old ws
-            → behind self.new (ws ++ wrote (Promise ballot) (meaning self.old)) };
+        ensures { Writes meaning behind (Promise ballot) self.old self.new result };
 
     /// Puts a command with the promised ballot into a slot of the window.
     fn put(&mut self, slot: u32, ballot: u32, command: &Command) -> bool
-        ensures answer { result ≡ taken (Put slot ballot command.now) (meaning self.old) }
-        ensures after { meaning self.new
-            ≡ step (Put slot ballot command.now) (meaning self.old) }
-        ensures behind { (ws : List Write) → behind self.old ws → behind self.new
-            (ws ++ wrote (Put slot ballot command.now) (meaning self.old)) };
+        ensures { Writes meaning behind (Put slot ballot command.now) self.old self.new result };
 
     /// Settles a command in the next slot.
     fn settle(&mut self, command: &Command) -> bool
-        ensures answer { result ≡ taken (Settle command.now) (meaning self.old) }
-        ensures after { meaning self.new
-            ≡ step (Settle command.now) (meaning self.old) }
-        ensures behind { (ws : List Write) → behind self.old ws → behind self.new
-            (ws ++ wrote (Settle command.now) (meaning self.old)) };
+        ensures { Writes meaning behind (Settle command.now) self.old self.new result };
 
     ghost within: { (j : Self) → Within (meaning j) };
 }

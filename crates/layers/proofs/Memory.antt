@@ -1,22 +1,14 @@
 -- What once-only keeps, read and written in its state.
-use Rattle.std.proofs.Common.{◌≡◌, ℕ, ◌+◌, ◌-◌, ◌<◌, ◌≤◌, ltb, ◌⊎◌, List, ◌++◌, map, length, get_or, take, drop, set, sym, ap, ◌∙◌, inl, inr, ⊎_elim, arith}
-use Rattle.std.proofs.lemmas.List.{append_assoc, length-append, length-set, length-map, take_at, drop_at, get_or_append_left, get_or-append_right, get_or-map, set-append_left, set-append_right, map-set}
+use Rattle.std.proofs.Common.{◌≡◌, ℕ, ◌+◌, ◌-◌, ◌<◌, ◌≤◌, ltb, Option, None, Some, List, ◌++◌, map, length, get_or, take, drop, set, sym, ap, ◌∙◌, arith}
+use Rattle.std.proofs.lemmas.List.{append_assoc, length-append, length-set, length-map, take_at, drop_at, get_or_append_left, get_or-map, set-append_left, set-append_right, map-set}
 use Rattle.std.proofs.lemmas.Bool.{cond-true, cond-false, le-ltb, eq-eqb}
 use Rattle.std.proofs.lemmas.Bool.Decides.{nat_tests}
 use Rattle.command.specs.declared.Command.{Command}
 use Rattle.layers.specs.declared.once.Kept.{Kept}
-use Rattle.machine.specs.declared.denials.Denial.TheVariants.{OldSerial}
-use Rattle.machine.specs.Denials.{number}
 use Rattle.machine.specs.Rules.{Rule}
-use Rattle.layers.specs.Once.{memory, once_rule, serial_of, answer_of, below_once, keeps, is_old, is_repeat}
+use Rattle.layers.specs.Once.{memory, kept_serial, kept_answer, once_rule, serial_of, answer_of, below_once, keeps, is_old, is_repeat}
 
 -- the rule, case by case
-rule_old : (lower : Rule) (s : List ℕ) (c : Command) → c.origin ≤ 31
-    → (c.serial ≡ 0) ⊎ (c.serial < serial_of s c.origin)
-    → once_rule lower s c ≡ (s, number OldSerial)
-rule_old lower s c k e =
-    cond-false (ltb 31 c.origin) _ _ (le-ltb 31 c.origin k) ∙ cond-true (is_old s c) _ _ (grind (arith, nat_tests))
-
 pub rule_again : (lower : Rule) (s : List ℕ) (c : Command) → c.origin ≤ 31
     → (c.serial ≡ 0 → ⊥) → c.serial ≡ serial_of s c.origin
     → once_rule lower s c ≡ (s, answer_of s c.origin)
@@ -56,69 +48,37 @@ put xs ys t u o n a l m h =
     ∙ append_assoc (set xs o n) (set ys o a) u)
 
 -- the memory of the code, in the state that it stands for
-abbrev blank : Kept
-blank = record { serial = 0; answer = 0 }
-
-abbrev serials : List Kept → List ℕ
-serials ks = map (λ k. k.serial) ks
-
-abbrev answers : List Kept → List ℕ
-answers ks = map (λ k. k.answer) ks
-
-serial_read : (ks : List Kept) (t : List ℕ) (o : ℕ) → length ks ≡ 32 → o ≤ 31
-    → serial_of (memory ks t) o ≡ (get_or ks o blank).serial
+serial_read : (ks : List (Option Kept)) (t : List ℕ) (o : ℕ) → length ks ≡ 32 → o ≤ 31
+    → serial_of (memory ks t) o ≡ kept_serial (get_or ks o None)
 serial_read ks t o l h =
-    get_or_append_left (serials ks) (answers ks ++ t) 0 o (omega (arith, length-map ks (λ k. k.serial)))
-    ∙ get_or-map (λ k. k.serial) ks o blank 0 (omega arith)
+    get_or_append_left (map kept_serial ks) (map kept_answer ks ++ t) 0 o (omega (arith, length-map ks kept_serial))
+    ∙ get_or-map kept_serial ks o None 0 (omega arith)
 
-answer_read : (ks : List Kept) (t : List ℕ) (o : ℕ) → length ks ≡ 32 → o ≤ 31
-    → answer_of (memory ks t) o ≡ (get_or ks o blank).answer
-answer_read ks t o l h =
-    let k : 32 ≤ 32 + o = omega arith in
-    let e : 32 + o - 32 ≡ o = omega arith in
-    get_or-append_right (serials ks) (answers ks ++ t) 32 (32 + o) 0 (length-map ks (λ k. k.serial) ∙ l) k
-    ∙ (ap (λ j. get_or (answers ks ++ t) j 0) e
-    ∙ (get_or_append_left (answers ks) t 0 o (omega (arith, length-map ks (λ k. k.answer)))
-    ∙ get_or-map (λ k. k.answer) ks o blank 0 (omega arith)))
-
-below_read : (ks : List Kept) (t : List ℕ) → length ks ≡ 32 → below_once (memory ks t) ≡ t
+below_read : (ks : List (Option Kept)) (t : List ℕ) → length ks ≡ 32 → below_once (memory ks t) ≡ t
 below_read ks t l =
-    drop_front (serials ks) (answers ks) t (length-map ks (λ k. k.serial) ∙ l) (length-map ks (λ k. k.answer) ∙ l)
+    drop_front (map kept_serial ks) (map kept_answer ks) t (length-map ks kept_serial ∙ l) (length-map ks kept_answer ∙ l)
 
-keeps_is : (ks : List Kept) (t : List ℕ) (c : Command) (r : List ℕ × ℕ) → length ks ≡ 32 → c.origin ≤ 31
+keeps_is : (ks : List (Option Kept)) (t : List ℕ) (c : Command) (r : List ℕ × ℕ) → length ks ≡ 32 → c.origin ≤ 31
     → keeps (memory ks t) c r
-    ≡ (memory (set ks c.origin (record { serial = c.serial; answer = r.1 })) r.0, r.1)
+    ≡ (memory (set ks c.origin (Some (record { serial = c.serial; answer = r.1 }))) r.0, r.1)
 keeps_is ks t c r l h =
-    let k : Kept = record { serial = c.serial; answer = r.1 } in
+    let k : Option Kept = Some (record { serial = c.serial; answer = r.1 }) in
     ap (λ z. (z, r.1))
-    (put (serials ks) (answers ks) t r.0 c.origin c.serial r.1 (length-map ks (λ k. k.serial) ∙ l)
-    (length-map ks (λ k. k.answer) ∙ l) h
-    ∙ (ap (λ z. z ++ (set (answers ks) c.origin r.1 ++ r.0)) (sym (map-set (λ k. k.serial) ks c.origin k))
-    ∙ ap (λ z. serials (set ks c.origin k) ++ (z ++ r.0)) (sym (map-set (λ k. k.answer) ks c.origin k))))
+    (put (map kept_serial ks) (map kept_answer ks) t r.0 c.origin c.serial r.1 (length-map ks kept_serial ∙ l)
+    (length-map ks kept_answer ∙ l) h
+    ∙ (ap (λ z. z ++ (set (map kept_answer ks) c.origin r.1 ++ r.0)) (sym (map-set kept_serial ks c.origin k))
+    ∙ ap (λ z. map kept_serial (set ks c.origin k) ++ (z ++ r.0)) (sym (map-set kept_answer ks c.origin k))))
 
--- the rule at the state of the code, case by case
-pub old_is : (lower : Rule) (ks : List Kept) (t : List ℕ) (c : Command) → length ks ≡ 32 → c.origin ≤ 31
-    → (c.serial ≡ 0) ⊎ (c.serial < (get_or ks c.origin blank).serial)
-    → once_rule lower (memory ks t) c ≡ (memory ks t, number OldSerial)
-old_is lower ks t c l h e =
-    rule_old lower (memory ks t) c h
-    (⊎_elim inl (λ m. inr (rw (serial_read ks t c.origin l h) m)) e)
-
-pub again_is : (lower : Rule) (ks : List Kept) (t : List ℕ) (c : Command) → length ks ≡ 32 → c.origin ≤ 31
-    → (c.serial ≡ 0 → ⊥) → c.serial ≡ (get_or ks c.origin blank).serial
-    → once_rule lower (memory ks t) c ≡ (memory ks t, (get_or ks c.origin blank).answer)
-again_is lower ks t c l h n e =
-    rule_again lower (memory ks t) c h n (e ∙ sym (serial_read ks t c.origin l h))
-    ∙ ap (λ a. (memory ks t, a)) (answer_read ks t c.origin l h)
-
-pub higher_is : (lower : Rule) (ks : List Kept) (t : List ℕ) (c : Command) (u : List ℕ) (a : ℕ) → length ks ≡ 32
-    → c.origin ≤ 31 → (get_or ks c.origin blank).serial < c.serial → u ≡ (lower t c).0 → a ≡ (lower t c).1
+-- the rule at the state of the code, where a command goes lower
+pub higher_is : (lower : Rule) (ks : List (Option Kept)) (t : List ℕ) (c : Command) (u : List ℕ) (a : ℕ)
+    → length ks ≡ 32 → c.origin ≤ 31 → kept_serial (get_or ks c.origin None) < c.serial
+    → u ≡ (lower t c).0 → a ≡ (lower t c).1
     → once_rule lower (memory ks t) c
-    ≡ (memory (set ks c.origin (record { serial = c.serial; answer = a })) u, a)
+    ≡ (memory (set ks c.origin (Some (record { serial = c.serial; answer = a }))) u, a)
 higher_is lower ks t c u a l h e eu ea =
     rule_higher lower (memory ks t) c h (rw (serial_read ks t c.origin l h) e)
     ∙ (ap (λ z. keeps (memory ks t) c (lower z c)) (below_read ks t l)
     ∙ (keeps_is ks t c (lower t c) l h
-    ∙ (ap (λ x. (memory (set ks c.origin (record { serial = c.serial; answer = x })) (lower t c).0, x))
+    ∙ (ap (λ x. (memory (set ks c.origin (Some (record { serial = c.serial; answer = x }))) (lower t c).0, x))
     (sym ea)
-    ∙ ap (λ v. (memory (set ks c.origin (record { serial = c.serial; answer = a })) v, a)) (sym eu))))
+    ∙ ap (λ v. (memory (set ks c.origin (Some (record { serial = c.serial; answer = a }))) v, a)) (sym eu))))

@@ -1,5 +1,5 @@
 -- Once-only over any machine.
-use Rattle.std.specs.Prelude.{ℕ, ◌+◌, Bool, cond, ◌||◌, List, ◌++◌, map, take, drop, replicate, ◌==◌, nat_lt, slice_index, slice_set}
+use Rattle.std.specs.Prelude.{ℕ, ◌+◌, Bool, cond, ◌||◌, Option, None, Some, List, ◌++◌, map, take, drop, replicate, ◌==◌, nat_lt, slice_index, slice_set}
 use Rattle.command.specs.declared.Command.{Command}
 use Rattle.layers.specs.declared.once.Kept.{Kept}
 use Rattle.layers.specs.declared.once.OnceOnly.{OnceOnly}
@@ -7,15 +7,24 @@ use Rattle.machine.specs.declared.denials.Denial.TheVariants.{UnknownOrigin, Old
 use Rattle.machine.specs.Denials.{number}
 use Rattle.machine.specs.Rules.{Rule}
 
+-- the serial that is kept of an origin, and what it was answered; 0 stands for none
+abbrev pub kept_serial : Option Kept → ℕ
+kept_serial None = 0
+kept_serial (Some k) = k.serial
+
+abbrev pub kept_answer : Option Kept → ℕ
+kept_answer None = 0
+kept_answer (Some k) = k.answer
+
 -- the highest serials of the origins 0 to 31, then what they were answered, in front of the state below
-abbrev pub memory : List Kept → List ℕ → List ℕ
-memory ks s = map (λ k. k.serial) ks ++ (map (λ k. k.answer) ks ++ s)
+abbrev pub memory : List (Option Kept) → List ℕ → List ℕ
+memory ks s = map kept_serial ks ++ (map kept_answer ks ++ s)
 
 -- the state: what is kept, and then the state of the machine below
 abbrev pub once_state : {M : Type 0} → (M → List ℕ) → OnceOnly M → List ℕ
 once_state state o = memory o.kept (state o.lower)
 
--- at first nothing is kept, for which 0 stands
+-- at first nothing is kept
 abbrev pub once_start : List ℕ → List ℕ
 once_start s = replicate 64 0 ++ s
 

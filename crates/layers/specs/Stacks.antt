@@ -1,19 +1,19 @@
 -- The stack: once-only over freeze over the pool.
 use Rattle.std.specs.Prelude.{ℕ, ◌≤◌, List}
 use Rattle.command.specs.declared.Command.{Command}
-use Rattle.machine.specs.declared.pools.Pool.{Pool}
 use Rattle.layers.specs.declared.freezing.Freeze.{Freeze}
 use Rattle.layers.specs.declared.once.OnceOnly.{OnceOnly}
 use Rattle.machine.specs.Rules.{Rule, after}
-use Rattle.machine.specs.Pools.{pool_state, pool_start, pool_rule, weight}
+use Rattle.machine.specs.Pools.{pool_start, pool_rule, weight}
 use Rattle.layers.specs.Freezing.{freeze_state, freeze_start, freeze_rule, below_freeze}
 use Rattle.layers.specs.Once.{once_state, once_start, once_rule, below_once}
 
-abbrev pub stack_state : OnceOnly (Freeze Pool) → List ℕ
-stack_state s = once_state (freeze_state pool_state) s
+-- the pool at the bottom is seen as its state
+abbrev pub stack_state : OnceOnly (Freeze (List ℕ)) → List ℕ
+stack_state s = once_state (freeze_state (λ t. t)) s
 
 -- the pool below both layers
-abbrev pub stack_pool : OnceOnly (Freeze Pool) → Pool
+abbrev pub stack_pool : OnceOnly (Freeze (List ℕ)) → List ℕ
 stack_pool s = s.lower.lower
 
 abbrev pub stack_start : List ℕ

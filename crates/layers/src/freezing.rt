@@ -7,13 +7,14 @@ use command::Command;
 use machine::{Denial, Machine};
 
 /// A machine that can be frozen: till it is thawed no command reaches the machine below.
-#[derive(Drop)]
+#[derive(PartialEq, Eq, Debug, Drop)]
 pub struct Freeze<M> {
     frozen: bool,
     lower: M,
 }
 
-// The verbs of this layer, whatever the other fields of the command are.
+// The verbs of this layer, whatever the other fields of the command are: numbers with names, since a command may hold
+// any verb, and all others are for the machine below.
 const FREEZE: u8 = 48;
 
 const THAW: u8 = 49;
@@ -47,18 +48,18 @@ impl<M: Machine> Machine for Freeze<M> {
     ghost rule = { freeze_rule M.Machine.rule };
 
     fn apply(&mut self, command: &Command) -> u16 {
-        if command.verb == FREEZE {
-            self.frozen = true;
-            return 0;
+        match command.verb {
+            FREEZE => {
+                self.frozen = true;
+                0
+            },
+            THAW => {
+                self.frozen = false;
+                0
+            },
+            _ if self.frozen => Denial::Frozen.answer(),
+            _ => self.lower.apply(command),
         }
-        if command.verb == THAW {
-            self.frozen = false;
-            return 0;
-        }
-        if self.frozen {
-            return Denial::Frozen.answer();
-        }
-        self.lower.apply(command)
     }
 
     fn reset(&mut self) {

@@ -2,6 +2,8 @@
 
 #![tactic(auto)]
 
+// Each layer has `over` and `lower`, and each `over` promises what its own layer is for. No code takes either layer, so a
+// trait for the two would have no caller.
 mod freezing;
 mod once;
 mod stacks;
@@ -9,11 +11,11 @@ mod stacks;
 pub use freezing::Freeze;
 use machine::Machine;
 pub use once::OnceOnly;
-pub use stacks::{Stack, new_stack, stack_weight};
+pub use stacks::Stack;
 
 #[cfg(test)]
 mod tests {
-    use crate::new_stack;
+    use crate::Stack;
     use command::Command;
     use machine::Machine;
 
@@ -29,12 +31,12 @@ mod tests {
 
     #[test]
     fn a_serial_that_was_denied_is_not_tried_again(rt: HostRuntime) {
-        let mut stack = new_stack();
+        let mut stack = Stack::new();
         assert_eq!(rt; stack.apply(&change(48, 7, 0, 0)), 0);
         assert_eq!(rt; stack.apply(&change(16, 8, 5, 100)), 65_532);
         assert_eq!(rt; stack.apply(&change(49, 9, 0, 0)), 0);
         assert_eq!(rt; stack.apply(&change(16, 8, 5, 100)), 65_534);
         assert_eq!(rt; stack.apply(&change(16, 10, 5, 100)), 0);
-        assert_eq!(rt; stack.lower().lower().weight(5), 100);
+        assert_eq!(rt; stack.weight(5), 100);
     }
 }

@@ -2,30 +2,25 @@
 
 ghost use Rattle.layers.specs.Once.{once_state, once_start, once_rule};
 ghost use Rattle.layers.specs.Passing.{ActsOnce, SameAnswer};
+ghost use Rattle.machine.specs.Denials.{told};
 ghost use Rattle.std.specs.Prelude.{◌≡◌};
 
 use command::{Command, Serial};
 use machine::{Denial, Machine};
 
-/// What is kept of an origin: its highest serial so far, 0 at first, and what that was answered.
-#[derive(Clone, Copy)]
+/// What is kept of an origin: its highest serial so far, and what that was answered.
+#[derive(Clone, Copy, PartialEq, Eq, Debug)]
 struct Kept {
     serial: Serial,
     answer: u16,
 }
 
 /// A machine that keeps, for origins 0 to 31, the highest serial and its answer; only higher serials go lower.
-#[derive(Drop)]
+#[derive(PartialEq, Eq, Debug, Drop)]
 pub struct OnceOnly<M> {
-    kept: [Kept; 32],
+    kept: [Option<Kept>; 32],
     lower: M,
 }
-
-// What is kept of an origin that has used no serial yet.
-const NOTHING: Kept = Kept {
-    serial: 0,
-    answer: 0,
-};
 
 impl<M: Machine> OnceOnly<M> {
     /// This machine with once-only over it, which keeps nothing yet. Whatever commands it gets, each origin and serial
@@ -37,7 +32,7 @@ impl<M: Machine> OnceOnly<M> {
         ensures again { SameAnswer M.Machine.rule }
     {
         OnceOnly {
-            kept: [NOTHING; 32],
+            kept: [None; 32],
             lower,
         }
     }
@@ -47,6 +42,29 @@ impl<M: Machine> OnceOnly<M> {
         ensures { result.now ≡ self.now.lower }
     {
         &self.lower
+    }
+
+    // Lets a command through whose serial is higher than the kept one, and keeps its answer.
+    fn pass(&mut self, command: &Command) -> Result<u16, Denial>
+        ensures next { once_state M.Machine.state self.new
+            ≡ (once_rule M.Machine.rule (once_state M.Machine.state self.old) command.now).0 }
+        ensures answer { told result
+            ≡ (once_rule M.Machine.rule (once_state M.Machine.state self.old) command.now).1 }
+    {
+        let origin = command.origin as usize;
+        match *self.kept.get(origin).ok_or(Denial::UnknownOrigin)? {
+            _ if command.serial == 0 => Err(Denial::OldSerial),
+            Some(kept) if command.serial < kept.serial => Err(Denial::OldSerial),
+            Some(kept) if command.serial == kept.serial => Ok(kept.answer),
+            _ => {
+                let answer = self.lower.apply(command);
+                self.kept[origin] = Some(Kept {
+                    serial: command.serial,
+                    answer,
+                });
+                Ok(answer)
+            },
+        }
     }
 }
 
@@ -58,27 +76,11 @@ impl<M: Machine> Machine for OnceOnly<M> {
     ghost rule = { once_rule M.Machine.rule };
 
     fn apply(&mut self, command: &Command) -> u16 {
-        if command.origin > 31 {
-            return Denial::UnknownOrigin.answer();
-        }
-        let origin = command.origin as usize;
-        let kept = self.kept[origin];
-        if command.serial == 0 || command.serial < kept.serial {
-            return Denial::OldSerial.answer();
-        }
-        if command.serial == kept.serial {
-            return kept.answer;
-        }
-        let answer = self.lower.apply(command);
-        self.kept[origin] = Kept {
-            serial: command.serial,
-            answer,
-        };
-        answer
+        self.pass(command).unwrap_or_else(Denial::answer)
     }
 
     fn reset(&mut self) {
-        self.kept = [NOTHING; 32];
+        self.kept = [None; 32];
         self.lower.reset();
     }
 }

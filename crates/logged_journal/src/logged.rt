@@ -1,5 +1,6 @@
 //! A journal that keeps a list of its writes.
 
+ghost use Rattle.journal.specs.Meaning.{Writes};
 ghost use Rattle.journal.specs.declared.writes.Write.{Write};
 ghost use Rattle.logged_journal.specs.Layers.{log_of, is_complete, log_behind, Over, Exact};
 ghost use Rattle.std.specs.Prelude.{◌≡◌, MatchResult};
@@ -7,7 +8,7 @@ ghost use Rattle.std.proofs.Common.{rules};
 
 use crate::logs::Log;
 use command::Command;
-use journal::{Entry, Journal, Write};
+use journal::{Entry, Journal, Write, make_write};
 use std::alloc::{AllocFailed, Global};
 
 /// Any journal, with a list of the writes that it took since this layer was laid over it. The layer takes memory for a
@@ -25,6 +26,7 @@ impl<J: Journal> LoggedJournal<J> {
     pub fn over(heap: Global, lower: J, room: usize) -> Result<LoggedJournal<J>, AllocFailed<J>>
         ensures { MatchResult result (λ j. Over lower room j) (λ e. e.value ≡ lower) }
     {
+        // Both outcomes take the journal, so they are the arms of a match.
         match Log::new(heap, room) {
             Ok(log) => Ok(LoggedJournal { lower, log }),
             Err(_) => Err(AllocFailed { value: lower }),
@@ -60,6 +62,17 @@ impl<J: Journal> LoggedJournal<J> {
         let LoggedJournal { lower, log: _ } = self;
         lower
     }
+
+    // Makes a write below, and keeps it if it was taken there.
+    fn write(&mut self, write: Write) -> bool
+        ensures { Writes (λ j. J.Journal.meaning j.lower) log_behind write self.old self.new result }
+    {
+        let taken = make_write(&mut self.lower, &write);
+        if taken {
+            self.log.keep(write);
+        }
+        taken
+    }
 }
 
 impl<J: Journal> Journal for LoggedJournal<J> {
@@ -90,30 +103,18 @@ impl<J: Journal> Journal for LoggedJournal<J> {
     }
 
     fn promise(&mut self, ballot: u32) -> bool {
-        if !self.lower.promise(ballot) {
-            return false;
-        }
-        self.log.keep(Write::Promise { ballot });
-        true
+        self.write(Write::Promise { ballot })
     }
 
     fn put(&mut self, slot: u32, ballot: u32, command: &Command) -> bool {
-        if !self.lower.put(slot, ballot, command) {
-            return false;
-        }
-        self.log.keep(Write::Put {
+        self.write(Write::Put {
             slot,
             ballot,
             command: *command,
-        });
-        true
+        })
     }
 
     fn settle(&mut self, command: &Command) -> bool {
-        if !self.lower.settle(command) {
-            return false;
-        }
-        self.log.keep(Write::Settle { command: *command });
-        true
+        self.write(Write::Settle { command: *command })
     }
 }

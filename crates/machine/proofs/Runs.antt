@@ -1,11 +1,11 @@
 -- Lists of commands one after another.
-use Rattle.std.proofs.Common.{ℕ, List, [], ◌∷◌, refl}
+use Rattle.std.proofs.Common.{ℕ, List, [], ◌∷◌}
+use Rattle.std.proofs.lemmas.List.Sums.{fold-append}
 use Rattle.command.specs.declared.Command.{Command}
 use Rattle.machine.specs.Rules.{Rule, after, Appended}
 
 pub after_append : (rule : Rule) → Appended rule
-after_append rule s [] ys = refl
-after_append rule s (x ∷ xs) ys = after_append rule (rule s x).0 xs ys
+after_append rule = fold-append (λ s c. (rule s c).0)
 
 -- what each command keeps, every list of commands keeps
 pub lasts : (rule : Rule) (P : List ℕ → Type 0)

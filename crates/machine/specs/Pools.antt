@@ -1,16 +1,11 @@
 -- The pool: weights of 64 backends, of which none exceeds 1,000.
 use Rattle.std.specs.Prelude.{ℕ, ◌≤◌, Bool, cond, ◌&&◌, List, replicate, ◌==◌, nat_le, slice_index, slice_set}
 use Rattle.command.specs.declared.Command.{Command}
-use Rattle.machine.specs.declared.pools.Pool.{Pool}
 use Rattle.machine.specs.declared.denials.Denial.TheVariants.{NoEffect}
 use Rattle.machine.specs.Denials.{number}
 use Rattle.machine.specs.Rules.{after}
 
--- the state is the list of the 64 weights
-abbrev pub pool_state : Pool → List ℕ
-pool_state p = p.weights
-
--- all weights are 0 at first
+-- the state is the list of the 64 weights, all 0 at first
 abbrev pub pool_start : List ℕ
 pool_start = replicate 64 0
 

@@ -3,7 +3,6 @@
 #![tactic(auto)]
 
 mod denials;
-mod leases;
 mod ledgers;
 mod pools;
 
@@ -48,16 +47,16 @@ pub fn apply_all<M: Machine>(machine: &mut M, commands: &[Command])
 
 #[cfg(test)]
 mod tests {
-    use crate::{Ledger, Machine, Pool};
+    use crate::{Denial, Ledger, Machine, Pool};
     use command::Command;
+    use std::test::Fail;
 
     fn change(verb: u8, a: u16, b: u16) -> Command {
         Command {
             verb,
-            origin: 0,
-            serial: 0,
             a,
             b,
+            ..Command::NOOP
         }
     }
 
@@ -70,6 +69,19 @@ mod tests {
         assert_eq!(rt; pool.apply(&change(17, 5, 0)), 40);
         assert_eq!(rt; pool.apply(&change(16, 5, 1_001)), 65_535);
         assert_eq!(rt; pool.apply(&change(16, 64, 1)), 65_535);
+    }
+
+    #[test]
+    fn a_denial_tells_why(rt: HostRuntime) -> Result<(), Fail> {
+        let told = format!(in rt.alloc(); "{}", Denial::Frozen)?;
+        assert_eq!(rt; told.as_str(), "the machine is frozen");
+        Ok(())
+    }
+
+    #[test]
+    fn a_new_machine_is_the_default(rt: HostRuntime) {
+        assert_eq!(rt; Pool::default(), Pool::new());
+        assert_eq!(rt; Ledger::default(), Ledger::new());
     }
 
     #[test]

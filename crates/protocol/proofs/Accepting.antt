@@ -1,7 +1,7 @@
 -- Hearing an ACCEPT or an ACKED keeps what is known.
 use Rattle.std.proofs.Common.{◌≡◌, ℕ, zero, suc, ◌+◌, ◌<◌, ◌≤◌, Bool, true, false, cond, not, ◌||◌, eqb, ltb, leb, List, [], ◌∷◌, ◌++◌, sym, refl, ◌∙◌, subst, ⊎_elim, arith, length-set}
 use lib.Bits.{bit_or}
-use Rattle.std.proofs.ByRecursion.{has_push}
+use Rattle.std.proofs.lemmas.List.Elements.{Contains-push}
 use Rattle.std.proofs.lemmas.Bool.{eqb-true, leb-true, leb-false, ltb-false, or_parts}
 use Rattle.command.specs.declared.Command.{Command}
 use Rattle.command.specs.Commands.{well_formed}
@@ -24,7 +24,7 @@ use Rattle.protocol.proofs.Growing.{one_is, plus, plus_one, written, replay_appe
 use Rattle.protocol.proofs.Writing.{upd, Grows, upd_grows, core_accept}
 use Rattle.protocol.proofs.Knowing.{AllVoted, all_voted_grows, Told, told_grows, Accepts, accepts_grow, Knows}
 use Rattle.protocol.proofs.Going.{desk, Good, Went, write_is, went_one, went_after, went_then, went_choose, went_quiet}
-use Rattle.protocol.proofs.Going.{went_still, through_grew, steps_assoc}
+use Rattle.protocol.proofs.Going.{went_silent, went_sent, through_grew, steps_assoc}
 use Rattle.protocol.proofs.Places.{placed_same}
 use Rattle.protocol.proofs.Sets.{has_with, has_union}
 use Rattle.protocol.proofs.Puts.{knows_put, put_grows, put_vote, acks_with}
@@ -138,7 +138,7 @@ module _ (f : Membership) (S : Command → Type 0) (P : ℕ → Past) (d : ℕ) 
         record {
           above = above;
           command = c;
-          voted = subst (λ (a : ℕ). Voted put_past n a c) (sym is) (has_push x.history (Put n b c));
+          voted = subst (λ (a : ℕ). Voted put_past n a c) (sym is) (Contains-push x.history (Put n b c));
           acks =
               subst (λ (a : ℕ). AllVoted (upd P d put_past) n a (ack_of voted_state n).set.bits) (sym is)
               (subst (λ (z : Acknowledged). AllVoted (upd P d put_past) n b z.set.bits) (sym same) ack_voted);
@@ -175,8 +175,8 @@ module _ (f : Membership) (S : Command → Type 0) (P : ℕ → Past) (d : ℕ) 
       went_choose f S P d x s (λ e. leb n (settled_by e))
       (λ e. send (learn (me e) (owner b) n (settled_of e.journal n) ∷ []) e) (choose (outside n) quiet (vote m))
       (λ e.
-      went_still f S P d x s (learn s.number (owner b) n (settled_of x.journal n) ∷ []) good
-      (learn_fact f S P d x s good (owner b) n first (leb-true n (count x) e), tt))
+      went_sent f S P d x s (learn s.number (owner b) n (settled_of x.journal n)) good
+      (learn_fact f S P d x s good (owner b) n first (leb-true n (count x) e)))
       (λ e.
       went_choose f S P d x s (outside n) quiet (vote m) (λ o. went_quiet f S P d x s good)
       (λ o.
@@ -226,7 +226,7 @@ went_acked f S P d x s good m is some fact =
     let least : 1 ≤ (open_of x.journal m.slot).ballot = omega arith in
     let above = open_past x.journal m.slot least in
     let near = (entry_bounds f S P d x s good m.slot least).near in
-    went_still f S P d x (change s) []
+    went_silent f S P d x (change s)
     (record {
       core = good.core;
       knows =
@@ -243,7 +243,6 @@ went_acked f S P d x s good m is some fact =
                 k.acks;
             role = k.role;
           };
-    })
-    tt)
+    }))
     (λ e. went_quiet f S P d x s good))
     (λ h. went_advance f S P d _ _ h)

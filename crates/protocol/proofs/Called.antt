@@ -1,13 +1,14 @@
 -- Every call that is not refused keeps what is known.
-use Rattle.std.proofs.Common.{◌≡◌, ℕ, ◌+◌, ◌≤◌, Bool, true, false, cond, List, [], ◌∷◌, Some, None, Ok, Err, Option, Result, sym, refl, ap, ◌∙◌, subst, ⊎_elim, arith}
-use Rattle.std.specs.List.{AllByRecursion}
-use Rattle.std.proofs.ByRecursion.{has_push_cases}
+use Rattle.std.proofs.Common.{◌≡◌, ℕ, ◌+◌, ◌≤◌, Bool, true, false, cond, List, [], ◌∷◌, ◌++◌, Some, None, Ok, Err, Option, Result, sym, refl, ap, ◌∙◌, subst, ⊎_elim, arith}
+use Rattle.std.specs.List.{All}
+use Rattle.std.proofs.lemmas.List.Elements.{All-nil, All-cons, Contains-push_cases}
 use Rattle.std.proofs.lemmas.Bool.{not-false}
 use Rattle.command.specs.declared.Command.{Command}
 use Rattle.command.specs.Commands.{well_formed}
 use Rattle.command.specs.Members.{Membership}
 use Rattle.protocol.specs.declared.messages.Message.{Message}
 use Rattle.protocol.specs.declared.refusals.Refusal.{Refusal}
+use Rattle.protocol.specs.declared.refusals.Refusal.TheVariants.{Malformed, Stale, IllFormed}
 use Rattle.protocol.specs.Desks.{Role, following, standing, State, Desk, Outcome, send, become, with_role, cleared}
 use Rattle.protocol.specs.Messages.{fetch as fetchOf}
 use Rattle.protocol.specs.Calls.{lengthened, submitted, fetched, restarted}
@@ -17,27 +18,27 @@ use Rattle.protocol.specs.Runs.{writes_of}
 use Rattle.protocol.proofs.Votes.{Past, count}
 use Rattle.protocol.proofs.Core.{Core}
 use Rattle.protocol.proofs.Writing.{upd}
-use Rattle.protocol.proofs.Knowing.{Fact, KnowsRole, Knows}
-use Rattle.protocol.proofs.Going.{desk, Good, Went, went_still, Throughout}
+use Rattle.protocol.proofs.Knowing.{leader_waits, Fact, KnowsRole, Knows}
+use Rattle.protocol.proofs.Going.{good_role, desk, Good, Went, went_silent, went_sent, Throughout}
 use Rattle.protocol.proofs.Stands.{went_stand, good_cleared}
 use Rattle.protocol.proofs.Pumps.{went_pump}
 use Rattle.protocol.proofs.Tells.{went_prod}
 use Rattle.protocol.proofs.Hears.{went_hear}
 
 -- where no reason is told, none holds
-none_holds : (rs : List (Bool × Refusal)) → topmost rs ≡ None → AllByRecursion (λ r. r.0 ≡ false) rs
-none_holds [] e = tt
+none_holds : (rs : List (Bool × Refusal)) → topmost rs ≡ None → All (λ r. r.0 ≡ false) rs
+none_holds [] e = All-nil (λ r. r.0 ≡ false)
 none_holds (r ∷ rs) e = go r.0 refl e (none_holds rs)
   where
     go : (t : Bool) → r.0 ≡ t → cond t (Some r.1) (topmost rs) ≡ None
-        → (topmost rs ≡ None → AllByRecursion (λ r. r.0 ≡ false) rs)
-        → (r.0 ≡ false) × AllByRecursion (λ r. r.0 ≡ false) rs
-    go true h e more = let z : ◌≡◌ {A = ℕ} 0 1 = cc in absurd (omega arith)
-    go false h e more = (h, more e)
+        → (topmost rs ≡ None → All (λ r. r.0 ≡ false) rs)
+        → All (λ r. r.0 ≡ false) (r ∷ rs)
+    go true h e more = absurd (cc)
+    go false h e more = All-cons (λ r. r.0 ≡ false) r rs h (more e)
 
 -- an accepted call had no reason to be refused, and did what it should
 pub record Accepted (call : Call) (places : ℕ) (d : Desk) (o : Outcome) : Type 0 where
-  pub sound : AllByRecursion (λ r. r.0 ≡ false) (reasons call places d)
+  pub sound : All (λ r. r.0 ≡ false) (reasons call places d)
   pub is : done call d ≡ o
 
 pub accepted_is : (call : Call) (places : ℕ) (d : Desk) (o : Outcome) → outcome call places d ≡ Ok o
@@ -48,53 +49,34 @@ accepted_is call places d o e = go (topmost (reasons call places d)) refl e
     go : (r : Option Refusal) → topmost (reasons call places d) ≡ r → unless r (done call d) ≡ Ok o
         → Accepted call places d o
     go None h e = record { sound = none_holds (reasons call places d) h; is = cc }
-    go (Some r) h e = let z : ◌≡◌ {A = ℕ} 0 1 = cc in absurd (omega arith)
+    go (Some r) h e = absurd (cc)
 
 module _ (f : Membership) (S : Command → Type 0) (P : ℕ → Past) (d : ℕ) (x : Past) (s : State) where
   role_submitted : (c : Command) → S c → well_formed c ≡ true → (r : Role) → KnowsRole S (upd P d x) d x r
       → KnowsRole S (upd P d x) d x (lengthened c r)
   role_submitted c known formed following k = tt
   role_submitted c known formed (standing q line reports) k =
-      record {
-        own = k.own;
-        some = k.some;
-        eight = k.eight;
-        promisers = k.promisers;
-        told = k.told;
-        voted = k.voted;
-        settled = k.settled;
-        waiting = λ i h.
-            ⊎_elim (k.waiting i) (λ e. (subst S e known, ap well_formed (sym e) ∙ formed)) (has_push_cases line c i h);
-      }
+      leader_waits S (upd P d x) d x q line (line ++ (c ∷ [])) reports k
+      (λ i h.
+      ⊎_elim (k.waiting i) (λ e. (subst S e known, ap well_formed (sym e) ∙ formed)) (Contains-push_cases line c i h))
 
   went_submit : Good f S P d x s → (c : Command) → S c → well_formed c ≡ true
       → Went f S P d x (submitted c (desk x s))
   unfolding submitted become
   went_submit good c known formed =
-      let k = good.knows in
-      went_still f S P d x (with_role (lengthened c s.role) s) []
-      (record {
-        core = good.core;
-        knows =
-            record {
-              number = k.number;
-              founding = k.founding;
-              eight = k.eight;
-              acks = k.acks;
-              role = role_submitted c known formed s.role k.role;
-            };
-      })
-      tt
+      let r : Role = lengthened c s.role in
+      went_silent f S P d x (with_role r s)
+      (good_role f S P d x s r good (role_submitted c known formed s.role good.knows.role))
 
   went_fetch : Good f S P d x s → (peer : ℕ) → Went f S P d x (fetched peer (desk x s))
   unfolding fetched send
   went_fetch good peer =
-      went_still f S P d x s (fetchOf s.number peer (count x + 1) ∷ []) good (tt, tt)
+      went_sent f S P d x s (fetchOf s.number peer (count x + 1)) good tt
 
   went_restart : Core f S (upd P d x) → s.number ≡ d → s.founding ≡ f → Went f S P d x (restarted (desk x s))
   unfolding restarted become
   went_restart core number founding =
-      went_still f S P d x (cleared s) [] (good_cleared f S P d x s core number founding) tt
+      went_silent f S P d x (cleared s) (good_cleared f S P d x s core number founding)
 
   -- what must be known before a call: of a restart only the journals
   pub record Before (call : Call) : Type 0 where
@@ -107,18 +89,19 @@ module _ (f : Membership) (S : Command → Type 0) (P : ℕ → Past) (d : ℕ) 
     pub fact : (m : Message) → call ≡ hear m → Fact (upd P d x) m
 
   went_done : (call : Call) (places : ℕ) → Before call
-      → AllByRecursion (λ r. r.0 ≡ false) (reasons call places (desk x s))
+      → All (λ r. r.0 ≡ false) (reasons call places (desk x s))
       → Went f S P d x (done call (desk x s))
   went_done (submit c) places b sound =
       went_submit (record { core = b.core; knows = b.knows refl }) c (b.known c refl)
-      (not-false (well_formed c) sound.1.0)
+      (not-false (well_formed c) (sound 1 (false, IllFormed) (omega arith)))
   went_done stand places b sound =
       went_stand f S P d x s (record { core = b.core; knows = b.knows refl }) b.director
   went_done pump places b sound = went_pump f S P d x s (record { core = b.core; knows = b.knows refl })
   went_done prod places b sound = went_prod f S P d x s (record { core = b.core; knows = b.knows refl })
   went_done (fetch peer) places b sound = went_fetch (record { core = b.core; knows = b.knows refl }) peer
   went_done (hear m) places b sound =
-      went_hear f S P d x s (record { core = b.core; knows = b.knows refl }) m sound.1.1.0 sound.1.1.1.0
+      went_hear f S P d x s (record { core = b.core; knows = b.knows refl }) m
+      (sound 2 (false, Malformed) (omega arith)) (sound 3 (false, Stale) (omega arith))
       (b.fact m refl)
   went_done restart places b sound = went_restart b.core b.number b.founding
 

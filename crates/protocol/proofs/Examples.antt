@@ -1,7 +1,7 @@
 -- The concrete runs, by computation.
 use Rattle.std.proofs.Common.{◌≡◌, ℕ, ◌-◌, Bool, true, false, not, ◌&&◌, leb, List, [], ◌∷◌, ◌++◌, length, get_or, Ok, Err, Result, sym, refl, ap, subst, append_assoc, append-nil, arith}
-use Rattle.std.specs.List.{ContainsAt as Has}
-use Rattle.std.proofs.ByRecursion.{has_get_or}
+use Rattle.std.specs.List.{Contains}
+use Rattle.std.proofs.lemmas.List.Elements.{Contains-get_or}
 use Rattle.std.proofs.lemmas.Bool.{and_parts, leb-true, not-true, both_ways}
 use Rattle.journal.specs.Meaning.{taken, after, step, wrote}
 use Rattle.protocol.specs.declared.messages.Message.{Message}
@@ -47,7 +47,7 @@ may_do_all : Cluster → World → List Act → Bool
 may_do_all k w [] = true
 may_do_all k w (a ∷ rest) = may_do w a && may_do_all k (leads k w (director_of a) (call_in w a) (result w a)) rest
 
-heard_sent : (w : World) (a : Act) → numbered w a ≡ true → (m : Message) → call_in w a ≡ hear m → Has w.sent m
+heard_sent : (w : World) (a : Act) → numbered w a ≡ true → (m : Message) → call_in w a ≡ hear m → Contains w.sent m
 unfolding numbered is_hear
 heard_sent w (calls d call) h m e =
     absurd (both_ways (is_hear call) (not-true (is_hear call) h) (ap is_hear e))
@@ -56,7 +56,7 @@ heard_sent w (hears d n) h m e =
     let low = leb-true 1 n p.0 in
     let high = leb-true n (length w.sent) p.1 in
     let same : get_or w.sent (n - 1) (nothing 0 0 0) ≡ m = cc in
-    subst (Has w.sent) same (has_get_or w.sent (n - 1) (nothing 0 0 0) (omega arith))
+    subst (Contains w.sent) same (Contains-get_or w.sent (n - 1) (nothing 0 0 0) (omega arith))
 
 next_is : (k : Cluster) (w : World) (d : ℕ) (call : Call) (r : Result Outcome Refusal)
     → outcome call table_places (desk_of (w.seats d)) ≡ r → is_accepted r ≡ true

@@ -1,20 +1,20 @@
 -- What a step keeps, and that one step after another keeps it.
 use Rattle.std.proofs.Common.{◌≡◌, ℕ, zero, suc, Bool, true, false, cond, List, [], ◌∷◌, ◌++◌, take, sym, refl, ap, ◌∙◌, subst, append_assoc}
-use Rattle.std.specs.List.{AllByRecursion}
-use Rattle.std.proofs.ByRecursion.{All-append, All-weaker}
+use Rattle.std.specs.List.{All}
+use Rattle.std.proofs.lemmas.List.Elements.{All-nil, All-cons, All-append, All-weaker}
 use Rattle.command.specs.declared.Command.{Command}
 use Rattle.command.specs.Members.{Membership}
 use Rattle.journal.specs.declared.writes.Write.{Write}
 use Rattle.journal.specs.Meaning.{Meaning, taken, wrote, replay}
 use Rattle.protocol.specs.declared.messages.Message.{Message}
-use Rattle.protocol.specs.Desks.{State, Desk, Outcome, Step, left, both, go_on, quiet, write, choose}
-use Rattle.protocol.specs.Desks.{repeat, ◌▸◌}
+use Rattle.protocol.specs.Desks.{Role, State, Desk, Outcome, Step, left, both, go_on, quiet, write, choose}
+use Rattle.protocol.specs.Desks.{with_role, repeat, ◌▸◌}
 use Rattle.protocol.proofs.Votes.{Past}
 use Rattle.protocol.proofs.Growing.{Grew, grew_same, grew_trans, grew_one, plus, plus_one, plus_none, plus_append}
 use Rattle.protocol.proofs.Growing.{replay_append}
 use Rattle.protocol.proofs.Core.{Core}
 use Rattle.protocol.proofs.Writing.{upd, Grows, upd_grows}
-use Rattle.protocol.proofs.Knowing.{Fact, fact_grows, Knows}
+use Rattle.protocol.proofs.Knowing.{Fact, fact_grows, KnowsRole, Knows}
 
 -- the desk of a director with this past and memory
 abbrev pub desk : Past → State → Desk
@@ -93,24 +93,45 @@ module _ (f : Membership) (S : Command → Type 0) (P : ℕ → Past) (d : ℕ) 
     pub core : Core f S (upd P d x)
     pub knows : Knows f S (upd P d x) d x s
 
+  -- the same with another role that fits
+  pub good_role : (x : Past) (s : State) (r : Role) → Good x s → KnowsRole S (upd P d x) d x r
+      → Good x (with_role r s)
+  good_role x s r g role =
+      let k = g.knows in
+      record {
+        core = g.core;
+        knows =
+            record { number = k.number; founding = k.founding; eight = k.eight; acks = k.acks; role = role };
+      }
+
   -- what it did kept the core, it knows what it should, and what it sent is true
   pub record Went (x : Past) (o : Outcome) : Type 0 where
     pub through : Throughout x o.writes
     pub knows : Knows f S (upd P d (plus x o.writes)) d (plus x o.writes) o.state
-    pub facts : AllByRecursion (Fact (upd P d (plus x o.writes))) o.messages
+    pub facts : All (Fact (upd P d (plus x o.writes))) o.messages
 
   pub went_good : (x : Past) (o : Outcome) → Went x o → Good (plus x o.writes) o.state
   went_good x o w = record { core = through_end o.writes x w.through; knows = w.knows }
 
   -- where nothing is written
-  pub went_still : (x : Past) (s : State) (ms : List Message) → Good x s → AllByRecursion (Fact (upd P d x)) ms
+  pub went_still : (x : Past) (s : State) (ms : List Message) → Good x s → All (Fact (upd P d x)) ms
       → Went x (record { state = s; writes = []; messages = ms })
   went_still x s ms g fs =
       record {
         through = g.core;
         knows = subst (λ (y : Past). Knows f S (upd P d y) d y s) (sym (plus_none x)) g.knows;
-        facts = subst (λ (y : Past). AllByRecursion (Fact (upd P d y)) ms) (sym (plus_none x)) fs;
+        facts = subst (λ (y : Past). All (Fact (upd P d y)) ms) (sym (plus_none x)) fs;
       }
+
+  -- nor sent
+  pub went_silent : (x : Past) (s : State) → Good x s → Went x (record { state = s; writes = []; messages = [] })
+  went_silent x s g = went_still x s [] g (All-nil (Fact (upd P d x)))
+
+  -- where one message is all
+  pub went_sent : (x : Past) (s : State) (m : Message) → Good x s → Fact (upd P d x) m
+      → Went x (record { state = s; writes = []; messages = m ∷ [] })
+  went_sent x s m g f =
+      went_still x s (m ∷ []) g (All-cons (Fact (upd P d x)) m [] f (All-nil (Fact (upd P d x))))
 
   went_both : (x : Past) (o p : Outcome) → Went x o → Went (plus x o.writes) p → Went x (both o p)
   unfolding both
@@ -124,7 +145,7 @@ module _ (f : Membership) (S : Command → Type 0) (P : ℕ → Past) (d : ℕ) 
         through = through_append o.writes p.writes x u.through v.through;
         knows = subst (λ (y : Past). Knows f S (upd P d y) d y p.state) same v.knows;
         facts =
-            subst (λ (y : Past). AllByRecursion (Fact (upd P d y)) (o.messages ++ p.messages)) same
+            subst (λ (y : Past). All (Fact (upd P d y)) (o.messages ++ p.messages)) same
             (All-append (Fact (upd P d z)) o.messages p.messages
             (All-weaker (Fact (upd P d y)) (Fact (upd P d z)) (fact_grows (upd P d y) (upd P d z) grown) o.messages
             u.facts)
@@ -155,7 +176,7 @@ module _ (f : Membership) (S : Command → Type 0) (P : ℕ → Past) (d : ℕ) 
   pub went_one : (x : Past) (t : State) (w : Write) → taken w x.journal ≡ true → Core f S (upd P d x)
       → Good (plus_one x w) t → Went x (record { state = t; writes = w ∷ []; messages = [] })
   went_one x t w is_taken before g =
-      record { through = (before, is_taken, g.core); knows = g.knows; facts = tt }
+      record { through = (before, is_taken, g.core); knows = g.knows; facts = All-nil (Fact (upd P d (plus_one x w))) }
 
   -- a step that is chosen by a test
   pub went_choose : (x : Past) (s : State) (test : Desk → Bool) (one other : Step)
@@ -169,7 +190,7 @@ module _ (f : Membership) (S : Command → Type 0) (P : ℕ → Past) (d : ℕ) 
 
   pub went_quiet : (x : Past) (s : State) → Good x s → Went x (quiet (desk x s))
   unfolding quiet
-  went_quiet x s g = went_still x s [] g tt
+  went_quiet = went_silent
 
   -- a step that is repeated while a test holds, where something holds of each past that grew from the first
   pub went_repeat : (test : Desk → Bool) (turn : Step) (Q : Past → Type 0) → ((x y : Past) → Grew x y → Q x → Q y)

@@ -1,6 +1,6 @@
 -- How pasts grow: one write at a time.
 use Rattle.std.proofs.Common.{◌≡◌, ℕ, ◌+◌, ◌-◌, ◌<◌, ◌≤◌, true, cond, ◌⊎◌, List, [], ◌∷◌, ◌++◌, length, take, sym, refl, ap, ◌∙◌, subst, inl, inr, ⊎_elim, append_assoc, append-nil, arith}
-use Rattle.std.proofs.ByRecursion.{has_push_cases, has_append_left}
+use Rattle.std.proofs.lemmas.List.Elements.{Contains-push_cases, Contains-append_left}
 use Rattle.std.proofs.lemmas.List.{length-append, take-append-le}
 use Rattle.std.proofs.lemmas.Bool.{leb-true}
 use Rattle.command.specs.declared.Command.{Command}
@@ -105,28 +105,28 @@ pub grew_by : (w : Write) (x : Past) → taken w x.journal ≡ true → Grew x (
 unfolding taken after
 grew_by (Promise b) x t =
     record {
-      votes = λ n k c v. has_append_left x.history (Promise b ∷ []) (Put n k c) v;
-      newer = λ n k c v. ⊎_elim (λ h. inl h) (λ e. let z : ◌≡◌ {A = ℕ} 0 1 = cc in absurd (omega arith))
-          (has_push_cases x.history (Promise b) (Put n k c) v);
+      votes = λ n k c v. Contains-append_left x.history (Promise b ∷ []) (Put n k c) v;
+      newer = λ n k c v. ⊎_elim (λ h. inl h) (λ e. absurd (cc))
+          (Contains-push_cases x.history (Promise b) (Put n k c) v);
       promised = leb-true (promise x) b t;
       settled = begins_same x.journal.settled;
     }
 grew_by (Put n b c) x t =
     let q = put_parts n b c x.journal t in
     record {
-      votes = λ k e f v. has_append_left x.history (Put n b c ∷ []) (Put k e f) v;
+      votes = λ k e f v. Contains-append_left x.history (Put n b c ∷ []) (Put k e f) v;
       newer = λ k e f v.
           ⊎_elim (λ h. inl h)
           (λ s. let slot : n ≡ k = cc in let ballot : b ≡ e = cc in inr (omega (arith, q.ballot), omega (arith, q.low)))
-          (has_push_cases x.history (Put n b c) (Put k e f) v);
+          (Contains-push_cases x.history (Put n b c) (Put k e f) v);
       promised = omega arith;
       settled = begins_same x.journal.settled;
     }
 grew_by (Settle c) x t =
     record {
-      votes = λ n k f v. has_append_left x.history (Settle c ∷ []) (Put n k f) v;
-      newer = λ n k f v. ⊎_elim (λ h. inl h) (λ e. let z : ◌≡◌ {A = ℕ} 0 1 = cc in absurd (omega arith))
-          (has_push_cases x.history (Settle c) (Put n k f) v);
+      votes = λ n k f v. Contains-append_left x.history (Settle c ∷ []) (Put n k f) v;
+      newer = λ n k f v. ⊎_elim (λ h. inl h) (λ e. absurd (cc))
+          (Contains-push_cases x.history (Settle c) (Put n k f) v);
       promised = omega arith;
       settled = record { rest = c ∷ []; whole = refl };
     }

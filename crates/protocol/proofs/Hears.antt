@@ -23,7 +23,7 @@ use Rattle.protocol.proofs.Growing.{chain, plus, plus_none}
 use Rattle.protocol.proofs.Core.{Chosen, one_chain}
 use Rattle.protocol.proofs.Writing.{upd, upd_here, lawful_here}
 use Rattle.protocol.proofs.Knowing.{Fact, FactAs, Learns}
-use Rattle.protocol.proofs.Going.{desk, Good, Went, went_after, went_then, went_choose, went_quiet, went_still}
+use Rattle.protocol.proofs.Going.{good_role, desk, Good, Went, went_after, went_then, went_choose, went_quiet, went_still, went_silent, went_sent}
 use Rattle.protocol.proofs.Settles.{settle_taken, Yields, went_settle}
 use Rattle.protocol.proofs.Puts.{promised_open}
 use Rattle.protocol.proofs.Advances.{entry_newest, went_advance}
@@ -46,9 +46,8 @@ module _ (f : Membership) (S : Command → Type 0) (P : ℕ → Past) (d : ℕ) 
       (λ e.
       went_still f S P d y t (learns o m.slot (desk y t)) h (learns_facts f S P d y t h o m.slot first))
       (λ e.
-      went_still f S P d y t
-      (promiseOf t.number o m.ballot m.slot (entries_from (desk y t) m.slot) ∷ []) h
-      (promise_fact f S P d y t h o m.ballot m.slot (omega arith) (leb-false m.slot (count y) e), tt)))
+      went_sent f S P d y t (promiseOf t.number o m.ballot m.slot (entries_from (desk y t) m.slot)) h
+      (promise_fact f S P d y t h o m.ballot m.slot (omega arith) (leb-false m.slot (count y) e))))
 
   went_fetch : 1 ≤ m.slot → Went f S P d x (heard_fetch m (desk x s))
   unfolding heard_fetch send
@@ -134,24 +133,13 @@ module _ (f : Membership) (S : Command → Type 0) (P : ℕ → Past) (d : ℕ) 
       go : (t : Bool) → put_another m.slot c (desk x s) ≡ t
           → Went f S P d x ((cond t (become stopped) quiet ▸ settle c) (desk x s))
       go true e =
-          let stop : Good f S P d x (stopped s) =
-          record {
-            core = good.core;
-            knows =
-                record {
-                  number = good.knows.number;
-                  founding = good.knows.founding;
-                  eight = good.knows.eight;
-                  acks = good.knows.acks;
-                  role = tt;
-                };
-          } in
+          let stop : Good f S P d x (stopped s) = good_role f S P d x s following good tt in
           went_after f S P d x s (become stopped) (settle c)
-          (record { state = stopped s; writes = []; messages = [] }) refl (went_still f S P d x (stopped s) [] stop tt)
+          (record { state = stopped s; writes = []; messages = [] }) refl (went_silent f S P d x (stopped s) stop)
           (settling (stopped s) stop tt)
       go false e =
           went_after f S P d x s quiet (settle c) (record { state = s; writes = []; messages = [] }) refl
-          (went_still f S P d x s [] good tt) (settling s good (yields e s.role))
+          (went_silent f S P d x s good) (settling s good (yields e s.role))
 
 went_learn : (f : Membership) (S : Command → Type 0) (P : ℕ → Past) (d : ℕ) (x : Past) (s : State)
     → Good f S P d x s → (m : Message) → well_formed m.command ≡ true → Learns (upd P d x) m

@@ -1,6 +1,6 @@
 -- What a sent message tells for good, and what a director knows.
 use Rattle.std.proofs.Common.{◌≡◌, ℕ, ◌+◌, ◌-◌, ◌<◌, ◌≤◌, true, List, length, get_or, Some, None, Option, ⊎_elim, arith}
-use Rattle.std.specs.List.{ContainsAt as Has}
+use Rattle.std.specs.List.{Contains}
 use Rattle.command.specs.declared.Command.{Command}
 use Rattle.command.specs.declared.sets.DirectorSet.{DirectorSet}
 use Rattle.command.specs.Commands.{well_formed}
@@ -88,11 +88,27 @@ pub record Leader
   -- what it voted with its ballot in a settled slot, it has settled
   pub settled : (k : ℕ) (c : Command) → k ≤ count x → Voted x k (promise x) c → Settled x k c
   -- the commands that wait were submitted, and are well formed
-  pub waiting : (c : Command) → Has line c → S c × (well_formed c ≡ true)
+  pub waiting : (c : Command) → Contains line c → S c × (well_formed c ≡ true)
 
 abbrev pub KnowsRole : (Command → Type 0) → (ℕ → Past) → ℕ → Past → Role → Type 0
 KnowsRole S R d x following = Unit {0}
 KnowsRole S R d x (standing q line reports) = Leader S R d x q line reports
+
+-- a leader with another line, in which only such commands wait
+pub leader_waits : (S : Command → Type 0) (R : ℕ → Past) (d : ℕ) (x : Past) (q : DirectorSet) (line lines : List Command)
+    (reports : List Entry) → Leader S R d x q line reports
+    → ((c : Command) → Contains lines c → S c × (well_formed c ≡ true)) → Leader S R d x q lines reports
+leader_waits S R d x q line lines reports k waiting =
+    record {
+      own = k.own;
+      some = k.some;
+      eight = k.eight;
+      promisers = k.promisers;
+      told = k.told;
+      voted = k.voted;
+      settled = k.settled;
+      waiting = waiting;
+    }
 
 pub record Knows (f : Membership) (S : Command → Type 0) (R : ℕ → Past) (d : ℕ) (x : Past) (s : State) : Type 0 where
   pub number : s.number ≡ d

@@ -20,6 +20,8 @@ pub mod Hears
 pub mod Called
 pub mod Machines
 pub mod Worlds
+pub mod Seats
 pub mod Agrees
+pub mod Turns
 pub mod Loops
 pub mod Examples

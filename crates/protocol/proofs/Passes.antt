@@ -1,6 +1,7 @@
 -- What a director passes on is true.
-use Rattle.std.proofs.Common.{ℕ, ◌≤◌, Bool, true, false, cond, Some, None, Option}
-use Rattle.std.specs.List.{AllByRecursion}
+use Rattle.std.proofs.Common.{ℕ, ◌≤◌, Bool, true, false, cond, [], Some, None, Option}
+use Rattle.std.specs.List.{All}
+use Rattle.std.proofs.lemmas.List.Elements.{All-nil, All-cons}
 use Rattle.command.specs.declared.Command.{Command}
 use Rattle.command.specs.declared.sets.DirectorSet.{DirectorSet}
 use Rattle.command.specs.Members.{Membership}
@@ -36,11 +37,12 @@ module _ (f : Membership) (S : Command → Type 0) (P : ℕ → Past) (d : ℕ) 
         told = told;
       }
 
-  facts_to : (o : Option ℕ) → AllByRecursion (Fact (upd P d x)) (passed_to o (desk x s) n set u)
-  facts_to None = tt
-  facts_to (Some to) = (fact_to to (is_owner to entry.ballot), tt)
+  facts_to : (o : Option ℕ) → All (Fact (upd P d x)) (passed_to o (desk x s) n set u)
+  facts_to None = All-nil (Fact (upd P d x))
+  facts_to (Some to) =
+      All-cons (Fact (upd P d x)) _ [] (fact_to to (is_owner to entry.ballot)) (All-nil (Fact (upd P d x)))
 
-  pub passed_facts : AllByRecursion (Fact (upd P d x)) (passed (desk x s) n set u)
+  pub passed_facts : All (Fact (upd P d x)) (passed (desk x s) n set u)
   unfolding passed
   passed_facts = facts_to (next (desk x s) n)
 

@@ -13,7 +13,7 @@ use Rattle.protocol.specs.Hearing.{reported_in, reported, promised_by, heard_pro
 use Rattle.protocol.proofs.Votes.{Past, Voted, promise, count}
 use Rattle.protocol.proofs.Writing.{upd}
 use Rattle.protocol.proofs.Knowing.{SomeVoted, Promises, Leader, KnowsRole}
-use Rattle.protocol.proofs.Going.{desk, Good, Went, went_still}
+use Rattle.protocol.proofs.Going.{good_role, desk, Good, Went, went_silent}
 use Rattle.protocol.proofs.Places.{placed_same, placed_other}
 use Rattle.protocol.proofs.Sets.{has_with}
 
@@ -174,17 +174,6 @@ pub went_promise : (f : Membership) (S : Command → Type 0) (P : ℕ → Past) 
     → Promises (upd P d x) m → Went f S P d x (heard_promise m (desk x s))
 unfolding heard_promise become
 went_promise f S P d x s good m ballot next fact =
-    let k = good.knows in
-    went_still f S P d x (with_role (promised_by m (count x) s.role) s) []
-    (record {
-      core = good.core;
-      knows =
-          record {
-            number = k.number;
-            founding = k.founding;
-            eight = k.eight;
-            acks = k.acks;
-            role = role_promised S (upd P d x) d x m ballot next fact s.role k.role;
-          };
-    })
-    tt
+    let r : Role = promised_by m (count x) s.role in
+    went_silent f S P d x (with_role r s)
+    (good_role f S P d x s r good (role_promised S (upd P d x) d x m ballot next fact s.role good.knows.role))

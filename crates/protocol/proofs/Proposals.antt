@@ -1,7 +1,8 @@
 -- What a leader proposes is safe.
-use Rattle.std.proofs.Common.{◌≡◌, ℕ, zero, suc, ◌+◌, ◌<◌, ◌≤◌, Bool, true, false, cond, not, ◌&&◌, eqb, leb, ◌⊎◌, List, [], ◌∷◌, Some, None, Option, sym, refl, ap, ◌∙◌, subst, inl, inr, ⊎_elim, arith}
-use Rattle.std.specs.List.{ContainsAt as Has}
+use Rattle.std.proofs.Common.{◌≡◌, ℕ, ◌+◌, ◌<◌, ◌≤◌, Bool, true, false, cond, not, ◌&&◌, eqb, leb, ◌⊎◌, List, [], ◌∷◌, Some, None, Option, sym, refl, ap, ◌∙◌, subst, inl, inr, ⊎_elim, arith, find, slice_get}
+use Rattle.std.specs.List.{Contains, range_with_len}
 use Rattle.std.proofs.lemmas.Bool.{and_parts, leb-true, eqb-true, eqb-false, not-true, cases_order}
+use Rattle.std.proofs.lemmas.List.FromFn.{length-range_with_len, get_or-range_with_len}
 use Rattle.command.specs.declared.Command.{Command}
 use Rattle.command.specs.declared.sets.DirectorSet.{DirectorSet}
 use Rattle.command.specs.Commands.{well_formed}
@@ -11,13 +12,12 @@ use Rattle.command.specs.Sets.{has}
 use Rattle.journal.specs.declared.writes.Entry.{Entry}
 use Rattle.journal.specs.Meaning.{blank, open_of}
 use Rattle.journal.specs.Windows.{element_at, span}
-use Rattle.protocol.specs.Lists.{up_from, first_of, head_of}
 use Rattle.protocol.specs.Desks.{Role, following, standing, State, Desk, settled_by, promised, me}
 use Rattle.protocol.specs.Messages.{owner}
 use Rattle.protocol.specs.Rings.{chain_of, open_at, window}
 use Rattle.protocol.specs.Calls.{lowest_free, promisers, may_put, is_unreported, command_for, Proposal, proposing}
 use Rattle.protocol.specs.Calls.{proposal_for, proposal}
-use Rattle.protocol.proofs.Votes.{Past, Voted, promise, count, has_cons, has_first, has_rest, has_none}
+use Rattle.protocol.proofs.Votes.{Past, Voted, promise, count, has_first, has_rest}
 use Rattle.protocol.proofs.Votes.{vote_bounds, voted_at}
 use Rattle.protocol.proofs.Growing.{chain}
 use Rattle.protocol.proofs.Core.{By, Settled, Passed, SafeAt, one_chain}
@@ -28,25 +28,23 @@ use Rattle.protocol.proofs.Puts.{promised_open}
 
 -- Reading a proposal off the definitions.
 
-pub first_passes : {X : Type 0} (test : X → Bool) (xs : List X) (x : X) → first_of test xs ≡ Some x
-    → (test x ≡ true) × Has xs x
-first_passes test [] x e = let z : ◌≡◌ {A = ℕ} 0 1 = cc in absurd (omega arith)
+first_passes : {X : Type 0} (test : X → Bool) (xs : List X) (x : X) → find test xs ≡ Some x
+    → (test x ≡ true) × Contains xs x
+first_passes test [] x e = absurd (cc)
 first_passes {X} test (y ∷ ys) x e = go (test y) refl e (first_passes test ys x)
   where
-    go : (t : Bool) → test y ≡ t → cond t (Some y) (first_of test ys) ≡ Some x
-        → (first_of test ys ≡ Some x → (test x ≡ true) × Has ys x) → (test x ≡ true) × Has (y ∷ ys) x
+    go : (t : Bool) → test y ≡ t → cond t (Some y) (find test ys) ≡ Some x
+        → (find test ys ≡ Some x → (test x ≡ true) × Contains ys x) → (test x ≡ true) × Contains (y ∷ ys) x
     go true h e more =
         let same : y ≡ x = cc in
-        (ap test (sym same) ∙ h, subst (Has (y ∷ ys)) same (has_first y ys))
+        (ap test (sym same) ∙ h, subst (Contains (y ∷ ys)) same (has_first y ys))
     go false h e more = let m = more e in (m.0, has_rest y ys x m.1)
 
-pub up_from_has : (k a n : ℕ) → Has (up_from a k) n → (a ≤ n) × (n < a + k)
-up_from_has zero a n h = absurd (has_none n h)
-up_from_has (suc k) a n h =
-    elim (has_cons a (up_from (a + 1) k) n h) [
-      | inl same ↦ (omega arith, omega arith)
-      | inr more ↦ let m = up_from_has k (a + 1) n more in let l = m.0 in let r = m.1 in (omega arith, omega arith)
-    ]
+range_has : (a k n : ℕ) → Contains (range_with_len a k) n → (a ≤ n) × (n < a + k)
+range_has a k n h =
+    let low : h.0 < k = omega (arith, h.1, length-range_with_len a k) in
+    let is = sym (get_or-range_with_len a k h.0 n low) ∙ h.2 in
+    (omega arith, omega arith)
 
 -- a slot of the window without an entry of the promised ballot, with promises that are enough, and its command
 pub record Proposes (d : Desk) (n : ℕ) (c : Command) : Type 0 where
@@ -60,16 +58,16 @@ pub record Proposes (d : Desk) (n : ℕ) (c : Command) : Type 0 where
 proposed_at : (d : Desk) (o : Option ℕ) (x : Proposal) → lowest_free d ≡ o → proposal_for o d ≡ Some x
     → Proposes d x.slot x.command
 unfolding lowest_free may_put
-proposed_at d None x l e = let z : ◌≡◌ {A = ℕ} 0 1 = cc in absurd (omega arith)
+proposed_at d None x l e = absurd (cc)
 proposed_at d (Some n) x l e = go (may_put d n) refl e
   where
     fits : (o : Option Command) → command_for n d.state.role ≡ o → may_put d n ≡ true → proposing n o ≡ Some x
         → Proposes d x.slot x.command
-    fits None h may e = let z : ◌≡◌ {A = ℕ} 0 1 = cc in absurd (omega arith)
+    fits None h may e = absurd (cc)
     fits (Some c) h may e =
         let same : record { slot = n; command = c } ≡ x = cc in
         let f = first_passes (λ k. not (eqb (open_at d k).ballot (promised d))) (window d) n l in
-        let w = up_from_has span (settled_by d + 1) n f.1 in
+        let w = range_has (settled_by d + 1) span n f.1 in
         let low = w.0 in
         let high = w.1 in
         let a = and_parts (leb n d.journal.capacity && is_member (me d) (chain_of d n))
@@ -89,7 +87,7 @@ proposed_at d (Some n) x l e = go (may_put d n) refl e
     go : (t : Bool) → may_put d n ≡ t → cond t (proposing n (command_for n d.state.role)) None ≡ Some x
         → Proposes d x.slot x.command
     go true may e = fits (command_for n d.state.role) refl may e
-    go false may e = let z : ◌≡◌ {A = ℕ} 0 1 = cc in absurd (omega arith)
+    go false may e = absurd (cc)
 
 pub proposes : (d : Desk) (x : Proposal) → proposal d ≡ Some x → Proposes d x.slot x.command
 unfolding proposal
@@ -180,17 +178,17 @@ module _ (f : Membership) (S : Command → Type 0) (P : ℕ → Past) (d : ℕ) 
             (k.settled j i h (subst (λ (y : Past). Voted y j (promise x) i) here v));
       }
 
-  head_has : (line : List Command) (c : Command) → head_of line ≡ Some c → Has line c
-  head_has [] c e = let z : ◌≡◌ {A = ℕ} 0 1 = cc in absurd (omega arith)
-  head_has (a ∷ line) c e = let same : a ≡ c = cc in subst (Has (a ∷ line)) same (has_first a line)
+  head_has : (line : List Command) (c : Command) → slice_get line 0 ≡ Some c → Contains line c
+  head_has [] c e = absurd (cc)
+  head_has (a ∷ line) c e = let same : a ≡ c = cc in subst (Contains (a ∷ line)) same (has_first a line)
 
   pub fit : (r : Role) (c : Command) → KnowsRole S R d x r → enough (chain f x n) (promisers r).bits ≡ true
       → command_for n r ≡ Some c → Fit c
-  fit following c k quorum e = let z : ◌≡◌ {A = ℕ} 0 1 = cc in absurd (omega arith)
+  fit following c k quorum e = absurd (cc)
   fit (standing q line reports) c k quorum e = go (is_unreported n reports) refl e
     where
       go : (t : Bool) → is_unreported n reports ≡ t
-          → cond t (head_of line) (Some (element_at blank reports n).command) ≡ Some c → Fit c
+          → cond t (slice_get line 0) (Some (element_at blank reports n).command) ≡ Some c → Fit c
       go true u e =
           let w = k.waiting c (head_has line c e) in
           record {

@@ -1,8 +1,8 @@
 -- Pumping keeps what is known.
-use Rattle.std.proofs.Common.{◌≡◌, ℕ, ◌+◌, ◌<◌, ◌≤◌, Bool, true, false, cond, ◌&&◌, eqb, ltb, leb, List, [], ◌∷◌, drop, Some, None, Option, sym, refl, ap, ◌∙◌, subst, arith}
-use Rattle.std.specs.List.{ContainsAt as Has}
+use Rattle.std.proofs.Common.{◌≡◌, ℕ, ◌+◌, ◌<◌, ◌≤◌, Bool, true, false, cond, ◌&&◌, eqb, ltb, leb, List, [], ◌∷◌, drop, Some, None, Option, sym, refl, ap, ◌∙◌, subst, arith, is_some}
+use Rattle.std.specs.List.{Contains}
 use Rattle.std.proofs.lemmas.Bool.{and_from, eq-eqb, le-leb, lt-ltb}
-use Rattle.std.proofs.ByRecursion.{has_push}
+use Rattle.std.proofs.lemmas.List.Elements.{Contains-push}
 use Rattle.command.specs.declared.Command.{Command}
 use Rattle.command.specs.declared.sets.DirectorSet.{DirectorSet}
 use Rattle.command.specs.Commands.{well_formed}
@@ -14,7 +14,6 @@ use Rattle.journal.specs.declared.writes.Write.TheVariants.{Put}
 use Rattle.journal.specs.Meaning.{Meaning, settled_count, taken, after}
 use Rattle.journal.specs.Windows.{in_window, span}
 use Rattle.protocol.specs.declared.messages.Acknowledged.{Acknowledged}
-use Rattle.protocol.specs.Lists.{is_there}
 use Rattle.protocol.specs.Desks.{Role, following, standing, State, itself, with_role, with_ack, write, become}
 use Rattle.protocol.specs.Desks.{◌▸◌}
 use Rattle.protocol.specs.Rings.{pass_on}
@@ -24,7 +23,7 @@ use Rattle.protocol.proofs.Votes.{Past, Voted, VotedAt, promise, count, has_rest
 use Rattle.protocol.proofs.Growing.{one_is, plus_one, written, chain}
 use Rattle.protocol.proofs.Core.{SafeAt}
 use Rattle.protocol.proofs.Writing.{upd, upd_here, lawful_here, core_propose}
-use Rattle.protocol.proofs.Knowing.{AllVoted, Told, told_grows, KnowsRole, Knows}
+use Rattle.protocol.proofs.Knowing.{leader_waits, AllVoted, Told, told_grows, KnowsRole, Knows}
 use Rattle.protocol.proofs.Going.{desk, Good, Went, write_is, went_one, went_after, went_then, went_repeat, went_quiet}
 use Rattle.protocol.proofs.Sets.{has_alone}
 use Rattle.protocol.proofs.Puts.{promised_open, knows_put, put_grows, put_vote}
@@ -67,7 +66,7 @@ went_passable f S P d x s good n set u k =
     (subst (λ (b : ℕ). Told (upd P d x) b u) (sym is) k.told)
 
 -- the line without its first command waits for nothing new
-fewer_wait : (t : Bool) (line : List Command) (c : Command) → Has (cond t (drop 1 line) line) c → Has line c
+fewer_wait : (t : Bool) (line : List Command) (c : Command) → Contains (cond t (drop 1 line) line) c → Contains line c
 fewer_wait true [] c h = absurd (has_none c h)
 fewer_wait true (a ∷ line) c h = has_rest a line c h
 fewer_wait false line c h = h
@@ -76,16 +75,7 @@ fed_knows : (S : Command → Type 0) (R : ℕ → Past) (d : ℕ) (x : Past) (n 
     → KnowsRole S R d x (fed n r)
 fed_knows S R d x n following k = tt
 fed_knows S R d x n (standing q line reports) k =
-    record {
-      own = k.own;
-      some = k.some;
-      eight = k.eight;
-      promisers = k.promisers;
-      told = k.told;
-      voted = k.voted;
-      settled = k.settled;
-      waiting = λ c h. k.waiting c (fewer_wait (is_unreported n reports) line c h);
-    }
+    leader_waits S R d x q line _ reports k (λ c h. k.waiting c (fewer_wait (is_unreported n reports) line c h))
 
 module _ (f : Membership) (S : Command → Type 0) (P : ℕ → Past) (d : ℕ) (x : Past) (s : State)
     (good : Good f S P d x s) (n : ℕ) (c : Command) (is : Proposes (desk x s) n c) where
@@ -139,7 +129,7 @@ module _ (f : Membership) (S : Command → Type 0) (P : ℕ → Past) (d : ℕ) 
       record {
         above = is.above;
         command = c;
-        voted = has_push x.history (Put n b c);
+        voted = Contains-push x.history (Put n b c);
         acks = alone;
         told =
             told_grows (upd P d x) (upd P d put_past) (put_grows f S P d x s good n b c is_taken) b (count x)
@@ -169,7 +159,7 @@ module _ (f : Membership) (S : Command → Type 0) (P : ℕ → Past) (d : ℕ) 
   unfolding pumped propose_all
   went_pump x s good =
       went_then f S P d x s propose_all advance
-      (went_repeat f S P d (λ t. is_there (proposal t)) (λ t. propose_any (proposal t) t) (λ y. Unit {0})
+      (went_repeat f S P d (λ t. is_some (proposal t)) (λ t. propose_any (proposal t) t) (λ y. Unit {0})
       (λ y z h q. tt)
       (λ y t h q e. went_any y t h (proposal (desk y t)) refl) span x s good tt)
       (λ h. went_advance f S P d _ _ h)

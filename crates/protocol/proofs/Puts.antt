@@ -1,6 +1,6 @@
 -- Putting an entry keeps what is known.
 use Rattle.std.proofs.Common.{◌≡◌, ℕ, ◌+◌, ◌<◌, ◌≤◌, true, List, length, sym, ap, ◌∙◌, subst, inl, inr, ⊎_elim, arith, length-set}
-use Rattle.std.proofs.ByRecursion.{has_push, has_push_cases}
+use Rattle.std.proofs.lemmas.List.Elements.{Contains-push, Contains-push_cases}
 use Rattle.std.proofs.lemmas.Bool.{cases_eq}
 use Rattle.command.specs.declared.Command.{Command}
 use Rattle.command.specs.declared.sets.DirectorSet.{DirectorSet}
@@ -59,7 +59,7 @@ module _ (f : Membership) (S : Command → Type 0) (P : ℕ → Past) (d : ℕ) 
 
   pub put_vote : Voted (upd P d put_past d) n b c
   put_vote =
-      subst (λ (y : Past). Voted y n b c) (sym (upd_here P d put_past)) (has_push x.history (Put n b c))
+      subst (λ (y : Past). Voted y n b c) (sym (upd_here P d put_past)) (Contains-push x.history (Put n b c))
 
   leader_put : (q : DirectorSet) (line : List Command) (reports : List Entry)
       → Leader S (upd P d x) d x q line reports → Leader S (upd P d put_past) d put_past q line reports
@@ -81,7 +81,7 @@ module _ (f : Membership) (S : Command → Type 0) (P : ℕ → Past) (d : ℕ) 
             ⊎_elim
             (λ o. settled_grew x put_past j i (grew_by (Put n b c) x is_taken) (k.settled j i h o))
             (λ new. let slot : n ≡ j = cc in absurd (omega arith))
-            (has_push_cases x.history (Put n b c) (Put j (promise x) i) v);
+            (Contains-push_cases x.history (Put n b c) (Put j (promise x) i) v);
         waiting = k.waiting;
       }
 

@@ -1,6 +1,6 @@
 -- Settling keeps what is known: by acknowledgements, by what the ballot's owner has settled, or by what is learned.
 use Rattle.std.proofs.Common.{◌≡◌, ℕ, ◌+◌, ◌<◌, ◌≤◌, true, ltb, List, [], ◌∷◌, sym, refl, ap, ◌∙◌, subst, inl, inr, ⊎_elim, arith, length-set}
-use Rattle.std.proofs.ByRecursion.{has_push_cases}
+use Rattle.std.proofs.lemmas.List.Elements.{Contains-push_cases}
 use Rattle.std.proofs.lemmas.List.{length-append, get_or_push}
 use Rattle.std.proofs.lemmas.Bool.{and_from, lt-ltb, cases_lt}
 use Rattle.command.specs.declared.Command.{Command}
@@ -89,8 +89,8 @@ module _ (f : Membership) (S : Command → Type 0) (P : ℕ → Past) (d : ℕ) 
             ];
         settled = λ j i h v.
             let old : Voted x j (promise x) i =
-            ⊎_elim (λ o. o) (λ e. let z : ◌≡◌ {A = ℕ} 0 1 = cc in absurd (omega arith))
-            (has_push_cases x.history (Settle c) (Put j (promise x) i) v) in
+            ⊎_elim (λ o. o) (λ e. absurd (cc))
+            (Contains-push_cases x.history (Settle c) (Put j (promise x) i) v) in
             elim (cases_lt (count x) j) [
               | inl new ↦
                   let here : j ≡ count x + 1 = omega arith in

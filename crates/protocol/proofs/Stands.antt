@@ -1,7 +1,7 @@
 -- Promising a ballot, standing, and starting again keep what is known.
 use Rattle.std.proofs.Common.{◌≡◌, ℕ, ◌+◌, ◌*◌, ◌/◌, ◌%◌, ◌<◌, ◌≤◌, Bool, true, false, cond, ltb, List, [], ◌∷◌, length, filter, sym, refl, ap, ◌∙◌, subst, ⊎_elim, arith}
-use Rattle.std.specs.List.{AllByRecursion}
-use Rattle.std.proofs.ByRecursion.{All-map, All-from_get_or, has_push_cases}
+use Rattle.std.specs.List.{All, range_with_len}
+use Rattle.std.proofs.lemmas.List.Elements.{All-map, All-from_get_or, Contains-push_cases}
 use Rattle.std.proofs.lemmas.List.{get_or-replicate}
 use Rattle.std.proofs.lemmas.Bool.{le-leb, ltb-true, ltb-false}
 use Rattle.command.specs.declared.Command.{Command}
@@ -13,7 +13,6 @@ use Rattle.journal.specs.declared.writes.Write.TheVariants.{Promise, Put}
 use Rattle.journal.specs.Meaning.{blank, taken, after}
 use Rattle.journal.specs.Windows.{element_at, span}
 use Rattle.protocol.specs.declared.messages.Acknowledged.{Acknowledged}
-use Rattle.protocol.specs.Lists.{up_from}
 use Rattle.protocol.specs.Desks.{Role, following, State, Desk, Step, ◌▸◌, write, send, become, quiet}
 use Rattle.protocol.specs.Desks.{promised, me, itself, none, ack_of, with_role, stopped, cleared}
 use Rattle.protocol.specs.Messages.{owner, prepare}
@@ -26,7 +25,7 @@ use Rattle.protocol.proofs.Growing.{plus_none, written}
 use Rattle.protocol.proofs.Core.{Core}
 use Rattle.protocol.proofs.Writing.{upd, upd_here, Grows, upd_grows, lawful_here, core_promise}
 use Rattle.protocol.proofs.Knowing.{all_voted_grows, Fact, Leader, KnowsRole, Knows}
-use Rattle.protocol.proofs.Going.{desk, Good, Went, write_is, went_one, went_after, went_still}
+use Rattle.protocol.proofs.Going.{desk, Good, Went, write_is, went_one, went_after, went_still, went_silent}
 use Rattle.protocol.proofs.Sets.{has_alone, nobody_has}
 
 -- the next own ballot is higher, owned, and the lowest such one
@@ -50,11 +49,11 @@ lowest_own d b h =
     lowest c above own false e = let l = ltb-false b (b / 32 * 32 + d) e in omega arith
 
 -- PREPAREs tell nothing that could be false
-pub prepares_facts : (R : ℕ → Past) (named : ℕ → Bool) (d : Desk) → AllByRecursion (Fact R) (prepares named d)
+pub prepares_facts : (R : ℕ → Past) (named : ℕ → Bool) (d : Desk) → All (Fact R) (prepares named d)
 unfolding prepares
 prepares_facts R named d =
-    All-map (Fact R) (λ e. prepare (me d) e (promised d) (count_of d + 1)) (filter named (up_from 0 32))
-    (All-from_get_or (λ e. Fact R (prepare (me d) e (promised d) (count_of d + 1))) (filter named (up_from 0 32)) 0
+    All-map (Fact R) (λ e. prepare (me d) e (promised d) (count_of d + 1)) (filter named (range_with_len 0 32))
+    (All-from_get_or (λ e. Fact R (prepare (me d) e (promised d) (count_of d + 1))) (filter named (range_with_len 0 32)) 0
     (λ i h. tt))
   where
     count_of : Desk → ℕ
@@ -100,8 +99,8 @@ module _ (f : Membership) (S : Command → Type 0) (P : ℕ → Past) (d : ℕ) 
   -- a promise is no vote
   old_vote : (n a : ℕ) (c : Command) → Voted promised_past n a c → Voted x n a c
   old_vote n a c v =
-      ⊎_elim (λ o. o) (λ e. let z : ◌≡◌ {A = ℕ} 0 1 = cc in absurd (omega arith))
-      (has_push_cases x.history (Promise b) (Put n a c) v)
+      ⊎_elim (λ o. o) (λ e. absurd (cc))
+      (Contains-push_cases x.history (Promise b) (Put n a c) v)
 
   -- a director that begins to stand with a ballot of its own knows what a leader should
   leads : owner b ≡ d
@@ -196,7 +195,7 @@ module _ (f : Membership) (S : Command → Type 0) (P : ℕ → Past) (d : ℕ) 
       go false e =
           let lower = ltb-false (promise x) b e in
           went_after f S P d x s quiet next (record { state = s; writes = []; messages = [] }) refl
-          (went_still f S P d x s [] good tt)
+          (went_silent f S P d x s good)
           (λ h.
           k (plus x []) s h (subst (Grew x) (sym (plus_none x)) (grew_same x)) (omega arith))
 

@@ -1,15 +1,15 @@
 -- What a director tells of its settled slots and open entries is true; and what it passes on again.
-use Rattle.std.proofs.Common.{◌≡◌, ℕ, zero, suc, ◌+◌, ◌-◌, ◌<◌, ◌≤◌, min, Bool, true, false, cond, ◌&&◌, eqb, leb, List, [], ◌∷◌, length, get_or, sym, refl, ap, ◌∙◌, subst, arith}
-use Rattle.std.specs.List.{flat_map, AllByRecursion}
-use Rattle.std.proofs.ByRecursion.{All-map, All-append}
-use Rattle.std.proofs.lemmas.List.{get_or-map, length-map}
+use Rattle.std.proofs.Common.{◌≡◌, ℕ, ◌+◌, ◌-◌, ◌<◌, ◌≤◌, min, Bool, true, false, cond, ◌&&◌, eqb, leb, List, [], ◌∷◌, get_or, sym, refl, ap, ◌∙◌, subst, arith}
+use Rattle.std.specs.List.{flat_map, All, range_with_len}
+use Rattle.std.proofs.lemmas.List.Elements.{All-nil, All-map, All-append, All-from_get_or}
+use Rattle.std.proofs.lemmas.List.FromFn.{length-range_with_len, get_or-range_with_len}
+use Rattle.std.proofs.lemmas.List.FromFn.{length-map-range_with_len, get_or-map-range_with_len}
 use Rattle.std.proofs.lemmas.Bool.{and_parts, leb-true, eqb-true, cond-false, ne_eqb}
 use Rattle.command.specs.declared.Command.{Command}
 use Rattle.command.specs.Members.{Membership}
 use Rattle.journal.specs.declared.writes.Entry.{Entry}
 use Rattle.journal.specs.Meaning.{noop, blank, open_of, settled_of}
 use Rattle.journal.specs.Windows.{span}
-use Rattle.protocol.specs.Lists.{up_from}
 use Rattle.protocol.specs.Desks.{Role, following, standing, State, itself, ack_of, send}
 use Rattle.protocol.specs.Messages.{owner, learn, promise as promiseOf}
 use Rattle.protocol.specs.Rings.{open_at, window, passed}
@@ -25,23 +25,16 @@ use Rattle.protocol.proofs.Passes.{passed_facts}
 use Rattle.protocol.proofs.Advances.{own_vote, entry_vote, entry_bounds}
 use Rattle.protocol.proofs.Stands.{prepares_facts}
 
-all_up_from : (Q : ℕ → Type 0) (k a : ℕ) → ((n : ℕ) → a ≤ n → n < a + k → Q n) → AllByRecursion Q (up_from a k)
-all_up_from Q zero a h = tt
-all_up_from Q (suc k) a h =
-    (h a (omega arith) (omega arith), all_up_from Q k (a + 1) (λ n l r. h n (omega arith) (omega arith)))
+all_range : (Q : ℕ → Type 0) (a k : ℕ) → ((n : ℕ) → a ≤ n → n < a + k → Q n) → All Q (range_with_len a k)
+all_range Q a k h =
+    All-from_get_or Q (range_with_len a k) 0
+    (λ i l.
+    let low : i < k = omega (arith, length-range_with_len a k) in
+    subst Q (sym (get_or-range_with_len a k i 0 low)) (h (a + i) (omega arith) (omega arith)))
 
-length_up_from : (k a : ℕ) → length (up_from a k) ≡ k
-length_up_from zero a = refl
-length_up_from (suc k) a = ap suc (length_up_from k (a + 1))
-
-get_d_up_from : (k a i : ℕ) → i < k → get_or (up_from a k) i 0 ≡ a + i
-get_d_up_from zero a i h = absurd (omega arith)
-get_d_up_from (suc k) a zero h = omega arith
-get_d_up_from (suc k) a (suc i) h = let r = get_d_up_from k (a + 1) i (omega arith) in omega arith
-
-all_joined : {X Y : Type 0} (Q : Y → Type 0) (g : X → List Y) → ((x : X) → AllByRecursion Q (g x)) → (xs : List X)
-    → AllByRecursion Q (flat_map g xs)
-all_joined Q g h [] = tt
+all_joined : {X Y : Type 0} (Q : Y → Type 0) (g : X → List Y) → ((x : X) → All Q (g x)) → (xs : List X)
+    → All Q (flat_map g xs)
+all_joined Q g h [] = All-nil Q
 all_joined Q g h (x ∷ xs) = All-append Q (g x) (flat_map g xs) (h x) (all_joined Q g h xs)
 
 -- a slot that is settled
@@ -68,18 +61,16 @@ module _ (f : Membership) (S : Command → Type 0) (P : ℕ → Past) (d : ℕ) 
     subst (λ (y : Past). Settled y n (settled_of x.journal n)) (sym (upd_here P d x)) (settled_at x n some within),
   )
 
-  pub learns_facts : (to n : ℕ) → 1 ≤ n → AllByRecursion (Fact R) (learns to n (desk x s))
+  pub learns_facts : (to n : ℕ) → 1 ≤ n → All (Fact R) (learns to n (desk x s))
   unfolding learns
   learns_facts to n some =
       let k : ℕ = min (count x) (n + 7) + 1 - n in
-      All-map (Fact R) (λ j. learn s.number to j (settled_of x.journal j)) (up_from n k)
-      (all_up_from (λ j. Fact R (learn s.number to j (settled_of x.journal j))) k n
+      All-map (Fact R) (λ j. learn s.number to j (settled_of x.journal j)) (range_with_len n k)
+      (all_range (λ j. Fact R (learn s.number to j (settled_of x.journal j))) n k
       (λ j low high. learn_fact to j (omega arith) (omega arith)))
 
   entry_is : (n i : ℕ) → i < 8 → get_or (entries_from (desk x s) n) i blank ≡ open_of x.journal (n + i)
-  entry_is n i h =
-      get_or-map (open_at (desk x s)) (up_from n span) i 0 blank (omega (arith, length_up_from span n))
-      ∙ ap (open_of x.journal) (get_d_up_from span n i h)
+  entry_is n i h = get_or-map-range_with_len (open_of x.journal) n span i (n + i) blank h refl
 
   -- a promise, with the open entries from a slot on that is not settled
   pub promise_fact : (to b n : ℕ) → b ≤ promise x → count x < n
@@ -87,7 +78,7 @@ module _ (f : Membership) (S : Command → Type 0) (P : ℕ → Past) (d : ℕ) 
   promise_fact to b n low above =
       let here : R s.number ≡ x = ap R good.knows.number ∙ upd_here P d x in
       record {
-        eight = length-map (up_from n span) (open_at (desk x s)) ∙ length_up_from span n;
+        eight = length-map-range_with_len (open_at (desk x s)) n span;
         promised = subst (λ (y : Past). b ≤ promise y) (sym here) low;
         told = λ j a c from lower v.
             let mine : Voted x j a c = subst (λ (y : Past). Voted y j a c) here v in
@@ -136,11 +127,11 @@ module _ (f : Membership) (S : Command → Type 0) (P : ℕ → Past) (d : ℕ) 
                 (entry_vote f S P d x s good n some),
           )
 
-  again_facts : (n : ℕ) → AllByRecursion (Fact R) (passed_again (desk x s) n)
+  again_facts : (n : ℕ) → All (Fact R) (passed_again (desk x s) n)
   again_facts n = go (eqb (open_of x.journal n).ballot (promise x) && leb 1 (promise x)) refl
     where
       go : (t : Bool) → (eqb (open_of x.journal n).ballot (promise x) && leb 1 (promise x)) ≡ t
-          → AllByRecursion (Fact R) (cond t (passed (desk x s) n (known_set (desk x s) n) 0) [])
+          → All (Fact R) (cond t (passed (desk x s) n (known_set (desk x s) n) 0) [])
       go true e =
           let p = and_parts (eqb (open_of x.journal n).ballot (promise x)) (leb 1 (promise x)) e in
           let is = eqb-true (open_of x.journal n).ballot (promise x) p.0 in
@@ -148,10 +139,10 @@ module _ (f : Membership) (S : Command → Type 0) (P : ℕ → Past) (d : ℕ) 
           let some : 1 ≤ (open_of x.journal n).ballot = omega arith in
           passed_facts f S P d x s good n some (known_set (desk x s) n) 0 (known_voted n some is)
           (told_none (open_of x.journal n).ballot)
-      go false e = tt
+      go false e = All-nil (Fact R)
 
-  asked_facts : (r : Role) → AllByRecursion (Fact R) (asked_again r (desk x s))
-  asked_facts following = tt
+  asked_facts : (r : Role) → All (Fact R) (asked_again r (desk x s))
+  asked_facts following = All-nil (Fact R)
   asked_facts (standing q line reports) = prepares_facts R _ (desk x s)
 
   went_ask_again : Went f S P d x (ask_again (desk x s))

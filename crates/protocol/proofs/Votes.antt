@@ -1,6 +1,6 @@
 -- What the history of one journal tells: the votes that it put, and how its open entries follow from them.
-use Rattle.std.proofs.Common.{◌≡◌, ℕ, zero, suc, ◌+◌, ◌<◌, ◌≤◌, Bool, true, false, cond, eqb, ltb, leb, ◌⊎◌, List, [], ◌∷◌, length, sym, refl, ap, ◌∙◌, subst, inl, inr, ⊎_elim, arith, length-set}
-use Rattle.std.specs.List.{ContainsAt as Has, HoldsAt}
+use Rattle.std.proofs.Common.{◌≡◌, ℕ, zero, suc, ◌+◌, ◌<◌, ◌≤◌, Bool, true, false, cond, eqb, ltb, leb, ◌⊎◌, List, [], ◌∷◌, length, get_or, sym, refl, ap, ◌∙◌, subst, inl, inr, ⊎_elim, arith, length-set}
+use Rattle.std.specs.List.{Contains}
 use Rattle.std.proofs.lemmas.Bool.{and_parts, cases_eq, cond-true, eq-eqb, eqb-true, ltb-true, and_from, lt-ltb, le-leb}
 use Rattle.command.specs.declared.Command.{Command}
 use Rattle.command.specs.Commands.{well_formed}
@@ -22,7 +22,7 @@ pub record Past : Type 0 where
 
 -- it put command c into slot n with ballot b
 abbrev pub Voted : Past → ℕ → ℕ → Command → Type 0
-Voted x n b c = Has x.history (Put n b c)
+Voted x n b c = Contains x.history (Put n b c)
 
 abbrev pub VotedAt : Past → ℕ → ℕ → Type 0
 VotedAt x n b = (c : Command) × Voted x n b c
@@ -48,20 +48,20 @@ pub record Bounds (m : Meaning) (n b : ℕ) (c : Command) : Type 0 where
   pub formed : well_formed c ≡ true
 
 -- in a list is its first or what is in the rest
-pub has_cons : {X : Type 0} (x : X) (xs : List X) (y : X) → Has (x ∷ xs) y → (x ≡ y) ⊎ Has xs y
+pub has_cons : {X : Type 0} (x : X) (xs : List X) (y : X) → Contains (x ∷ xs) y → (x ≡ y) ⊎ Contains xs y
 has_cons {X} x xs y h = go h.0 h.1 h.2
   where
-    go : (k : ℕ) → k < length (x ∷ xs) → HoldsAt (λ z. z ≡ y) (x ∷ xs) k → (x ≡ y) ⊎ Has xs y
-    go zero l a = inl (a x)
+    go : (k : ℕ) → k < length (x ∷ xs) → get_or (x ∷ xs) k y ≡ y → (x ≡ y) ⊎ Contains xs y
+    go zero l a = inl a
     go (suc k) l a = inr (k, omega arith, a)
 
-pub has_first : {X : Type 0} (x : X) (xs : List X) → Has (x ∷ xs) x
-has_first x xs = (0, omega arith, λ d. refl)
+pub has_first : {X : Type 0} (x : X) (xs : List X) → Contains (x ∷ xs) x
+has_first x xs = (0, omega arith, refl)
 
-pub has_rest : {X : Type 0} (x : X) (xs : List X) (y : X) → Has xs y → Has (x ∷ xs) y
+pub has_rest : {X : Type 0} (x : X) (xs : List X) (y : X) → Contains xs y → Contains (x ∷ xs) y
 has_rest x xs y h = (suc h.0, let l = h.1 in omega arith, h.2)
 
-pub has_none : {X : Type 0} (y : X) → Has {X = X} [] y → ⊥
+pub has_none : {X : Type 0} (y : X) → Contains {X = X} [] y → ⊥
 has_none y h = let l = h.1 in omega arith
 
 same_capacity : (w : Write) (m : Meaning) → (after w m).capacity ≡ m.capacity
@@ -113,7 +113,7 @@ bounds_head n b c ws m t =
       formed = f.formed;
     }
 
-bounds_in : (ws : List Write) (m : Meaning) (n b : ℕ) (c : Command) → all_taken m ws ≡ true → Has ws (Put n b c)
+bounds_in : (ws : List Write) (m : Meaning) (n b : ℕ) (c : Command) → all_taken m ws ≡ true → Contains ws (Put n b c)
     → Bounds (replay m ws) n b c
 bounds_in [] m n b c t h = absurd (has_none (Put n b c) h)
 bounds_in (w ∷ ws) m n b c t h =
@@ -129,11 +129,11 @@ bounds_in (w ∷ ws) m n b c t h =
     ]
 
 -- a vote's ballot is at most the highest of its slot
-below_highest : (ws : List Write) (n b : ℕ) (c : Command) → Has ws (Put n b c) → b ≤ highest n ws
+below_highest : (ws : List Write) (n b : ℕ) (c : Command) → Contains ws (Put n b c) → b ≤ highest n ws
 below_highest [] n b c h = absurd (has_none (Put n b c) h)
 below_highest (Promise d ∷ ws) n b c h =
     elim (has_cons (Promise d) ws (Put n b c) h)
-    [ inl e ↦ let z : ◌≡◌ {A = ℕ} 0 1 = cc in omega arith | inr r ↦ below_highest ws n b c r ]
+    [ inl e ↦ absurd (cc) | inr r ↦ below_highest ws n b c r ]
 below_highest (Put k d f ∷ ws) n b c h =
     elim (has_cons (Put k d f) ws (Put n b c) h) [
       | inl e ↦
@@ -145,11 +145,11 @@ below_highest (Put k d f ∷ ws) n b c h =
     ]
 below_highest (Settle f ∷ ws) n b c h =
     elim (has_cons (Settle f) ws (Put n b c) h)
-    [ inl e ↦ let z : ◌≡◌ {A = ℕ} 0 1 = cc in omega arith | inr r ↦ below_highest ws n b c r ]
+    [ inl e ↦ absurd (cc) | inr r ↦ below_highest ws n b c r ]
 
 -- the newest entry is the first one, or was put
 newest_put : (ws : List Write) (n : ℕ) (e : Entry)
-    → (newest n e ws ≡ e) ⊎ Has ws (Put n (newest n e ws).ballot (newest n e ws).command)
+    → (newest n e ws ≡ e) ⊎ Contains ws (Put n (newest n e ws).ballot (newest n e ws).command)
 newest_put [] n e = inl refl
 newest_put (Promise b ∷ ws) n e =
     ⊎_elim (λ s. inl s) (λ h. inr (has_rest (Promise b) ws (Put n (newest n e ws).ballot (newest n e ws).command) h))
@@ -163,13 +163,13 @@ newest_put (Put k b c ∷ ws) n e =
     first : (t : Bool) → eqb k n ≡ t
         → newest n (cond t (record { ballot = b; command = c }) e) ws ≡ cond t (record { ballot = b; command = c }) e
         → (newest n (cond t (record { ballot = b; command = c }) e) ws ≡ e)
-        ⊎ Has (Put k b c ∷ ws)
+        ⊎ Contains (Put k b c ∷ ws)
         (Put n (newest n (cond t (record { ballot = b; command = c }) e) ws).ballot
         (newest n (cond t (record { ballot = b; command = c }) e) ws).command)
     first true t s =
         let k-is = eqb-true k n t in
         let z = sym s in
-        inr (subst (λ (v : Write). Has (Put k b c ∷ ws) v) (λ i. Put (k-is i) (z i).ballot (z i).command)
+        inr (subst (λ (v : Write). Contains (Put k b c ∷ ws) v) (λ i. Put (k-is i) (z i).ballot (z i).command)
         (has_first (Put k b c) ws))
     first false t s = inl s
 newest_put (Settle c ∷ ws) n e =
@@ -188,8 +188,8 @@ open_past m n h = go (in_window (settled_count m) n) refl h
 
 -- one more write that is no such vote
 other : (w : Write) (ws : List Write) (n b : ℕ) → ((c : Command) → w ≡ Put n b c → ⊥)
-    → ((c : Command) × Has ws (Put n b c)) ⊎ ((c : Command) → Has ws (Put n b c) → ⊥)
-    → ((c : Command) × Has (w ∷ ws) (Put n b c)) ⊎ ((c : Command) → Has (w ∷ ws) (Put n b c) → ⊥)
+    → ((c : Command) × Contains ws (Put n b c)) ⊎ ((c : Command) → Contains ws (Put n b c) → ⊥)
+    → ((c : Command) × Contains (w ∷ ws) (Put n b c)) ⊎ ((c : Command) → Contains (w ∷ ws) (Put n b c) → ⊥)
 other w ws n b ne (inl v) = inl (v.0, has_rest w ws (Put n b v.0) v.1)
 other w ws n b ne (inr v) = inr (λ c h. ⊎_elim (ne c) (v c) (has_cons w ws (Put n b c) h))
 
@@ -235,9 +235,9 @@ module _ (x : Past) (lawful : Lawful x) where
 
 -- whether something was put into a slot with a ballot can be told
 pub voted_at : (ws : List Write) (n b : ℕ)
-    → ((c : Command) × Has ws (Put n b c)) ⊎ ((c : Command) → Has ws (Put n b c) → ⊥)
+    → ((c : Command) × Contains ws (Put n b c)) ⊎ ((c : Command) → Contains ws (Put n b c) → ⊥)
 voted_at [] n b = inr (λ c h. has_none (Put n b c) h)
-voted_at (Promise d ∷ ws) n b = other (Promise d) ws n b (λ c e. let z : ◌≡◌ {A = ℕ} 0 1 = cc in omega arith)
+voted_at (Promise d ∷ ws) n b = other (Promise d) ws n b (λ c e. absurd (cc))
     (voted_at ws n b)
 voted_at (Put k d f ∷ ws) n b =
     elim (cases_eq k n) [
@@ -246,12 +246,12 @@ voted_at (Put k d f ∷ ws) n b =
             | inl g ↦
                 inl (
                   f,
-                  subst (λ (v : Write). Has (Put k d f ∷ ws) v) (λ i. Put (e i) (g i) f)
+                  subst (λ (v : Write). Contains (Put k d f ∷ ws) v) (λ i. Put (e i) (g i) f)
                       (has_first (Put k d f) ws),
                 )
             | inr g ↦ other (Put k d f) ws n b (λ c h. g (cc)) (voted_at ws n b)
           ]
       | inr e ↦ other (Put k d f) ws n b (λ c h. e (cc)) (voted_at ws n b)
     ]
-voted_at (Settle f ∷ ws) n b = other (Settle f) ws n b (λ c e. let z : ◌≡◌ {A = ℕ} 0 1 = cc in omega arith)
+voted_at (Settle f ∷ ws) n b = other (Settle f) ws n b (λ c e. absurd (cc))
     (voted_at ws n b)

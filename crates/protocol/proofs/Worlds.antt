@@ -1,8 +1,8 @@
 -- What holds of every world of a run, and what another seat with more writes must have for it to go on holding.
-use Rattle.std.proofs.Common.{◌≡◌, ℕ, Bool, true, false, cond, eqb, ◌⊎◌, List, [], ◌∷◌, ◌++◌, sym, refl, ap, ◌∙◌, subst, inl, inr, ⊎_elim}
+use Rattle.std.proofs.Common.{◌≡◌, ℕ, Bool, true, false, cond, eqb, List, [], ◌∷◌, ◌++◌, sym, refl, ap, ◌∙◌, subst, ⊎_elim}
 use mathlib.Core.Path.{fun_ext}
-use Rattle.std.specs.List.{ContainsAt as Has}
-use Rattle.std.proofs.ByRecursion.{has_append_left}
+use Rattle.std.specs.List.{Contains}
+use Rattle.std.proofs.lemmas.List.Elements.{Contains-append_left, Contains-append_cases}
 use Rattle.std.proofs.lemmas.Bool.{eqb-true}
 use Rattle.command.specs.declared.Command.{Command}
 use Rattle.command.specs.Members.{Membership, founded}
@@ -15,18 +15,12 @@ use Rattle.protocol.specs.Replies.{for_machine}
 use Rattle.protocol.specs.Runs.{Seat, journal_of, Cluster, World, accepted}
 use Rattle.protocol.specs.Runs.{Event, with_seat}
 use Rattle.protocol.specs.Agreement.{settled_list, led_to, Submitted}
-use Rattle.protocol.proofs.Votes.{Past, has_cons, has_first, has_rest}
+use Rattle.protocol.proofs.Votes.{Past}
 use Rattle.protocol.proofs.Growing.{grew_same, begins_same, plus}
 use Rattle.protocol.proofs.Core.{Core}
 use Rattle.protocol.proofs.Writing.{upd, Grows, upd_grows}
 use Rattle.protocol.proofs.Knowing.{Fact, fact_grows, Knows, knows_grows}
 use Rattle.protocol.proofs.Going.{Throughout, through_end, through_grew}
-
-has_append_cases : {X : Type 0} (xs ys : List X) (x : X) → Has (xs ++ ys) x → Has xs x ⊎ Has ys x
-has_append_cases [] ys x h = inr h
-has_append_cases (y ∷ xs) ys x h =
-    ⊎_elim (λ e. inl (subst (Has (y ∷ xs)) e (has_first y xs)))
-    (λ r. ⊎_elim (λ l. inl (has_rest y xs x l)) (λ l. inr l) (has_append_cases xs ys x r)) (has_cons y (xs ++ ys) x h)
 
 -- the past of a seat, and of all
 abbrev pub past_of : Seat → Past
@@ -41,7 +35,7 @@ Known es c = Submitted c es
 -- What holds of every world of a run.
 pub record Inv (k : Cluster) (es : List Event) (w : World) : Type 0 where
   pub core : Core (founded k.founding) (Known es) (pasts w)
-  pub sent : (m : Message) → Has w.sent m → Fact (pasts w) m
+  pub sent : (m : Message) → Contains w.sent m → Fact (pasts w) m
   pub number : (d : ℕ) → (w.seats d).state.number ≡ d
   pub founding : (d : ℕ) → (w.seats d).state.founding ≡ founded k.founding
   pub knows : (d : ℕ) → (w.seats d).outstanding ≡ false
@@ -56,7 +50,7 @@ submitted_more c es e s =
       director = s.director;
       places = s.places;
       among =
-          has_append_left es (e ∷ [])
+          Contains-append_left es (e ∷ [])
           (record { director = s.director; call = submit c; places = s.places; ending = accepted })
           s.among;
     }
@@ -137,7 +131,7 @@ module _ (k : Cluster) (es : List Event) (w : World) (i : Inv k es w) (d : ℕ) 
     pub knows : s.outstanding ≡ false → Knows f S (upd P d (plus x ws)) d (plus x ws) s.state
     pub machine : s.outstanding ≡ false
         → s.machine ≡ after k.make.rule k.make.start (for_machine (journal_of s).settled)
-    pub facts : (m : Message) → Has ms m → Fact (upd P d (plus x ws)) m
+    pub facts : (m : Message) → Contains ms m → Fact (upd P d (plus x ws)) m
 
   module _ (s : Seat) (ws : List Write) (ms : List Message) (n : Seated s ws ms) where
     abbrev v : World
@@ -160,7 +154,7 @@ module _ (k : Cluster) (es : List Event) (w : World) (i : Inv k es w) (d : ℕ) 
           core = subst (Core f S) (sym are) (through_end f S P d ws x n.through);
           sent = λ m h.
               subst (λ (Q : ℕ → Past). Fact Q m) (sym are)
-              (⊎_elim (λ o. fact_grows P R grown m (i.sent m o)) (n.facts m) (has_append_cases w.sent ms m h));
+              (⊎_elim (λ o. fact_grows P R grown m (i.sent m o)) (n.facts m) (Contains-append_cases w.sent ms m h));
           number = at_seat (λ e t. t.state.number ≡ e) w d s ms n.number i.number;
           founding = at_seat (λ e t. t.state.founding ≡ f) w d s ms n.founding i.founding;
           knows =

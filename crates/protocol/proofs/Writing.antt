@@ -1,6 +1,6 @@
 -- One write of one director keeps the core.
 use Rattle.std.proofs.Common.{◌≡◌, ℕ, ◌+◌, ◌≤◌, Bool, true, false, cond, eqb, ◌⊎◌, List, [], ◌∷◌, length, sym, refl, ap, ◌∙◌, subst, inl, inr, ⊎_elim, arith}
-use Rattle.std.proofs.ByRecursion.{has_push, has_push_cases}
+use Rattle.std.proofs.lemmas.List.Elements.{Contains-push, Contains-push_cases}
 use Rattle.std.proofs.lemmas.List.{length-append, get_or_append_left, get_or_push}
 use Rattle.std.proofs.lemmas.Bool.{cases_lt, eqb-true, eqb-false, eq-eqb}
 use Rattle.command.specs.declared.Command.{Command}
@@ -138,7 +138,7 @@ module _ (f : Membership) (S : Command → Type 0) (P : ℕ → Past) (d : ℕ) 
       (at_both
       (λ e u v. (n b : ℕ) (c : Command) → Voted v n b c → Voted u n b c ⊎ Just f S R e n b c) P d x y
       (λ n b c v. ⊎_elim (λ o. inl o) (λ new. inr (subst (JustVote f S R d) new vote))
-      (has_push_cases x.history w (Put n b c) v))
+      (Contains-push_cases x.history w (Put n b c) v))
       (λ e n b c v. inl v))
       (at_both
       (λ e u v. (n : ℕ) (c : Command) → Settled v n c → Settled u n c ⊎ Chosen R n c (chain f v n)) P d x y
@@ -163,7 +163,7 @@ module _ (f : Membership) (S : Command → Type 0) (P : ℕ → Past) (d : ℕ) 
       → Voted (upd P d x e) n b i ⊎ (c ≡ i)
   old_or_new n b c e i =
       at_both (λ e u v. Voted v n b i → Voted u n b i ⊎ (c ≡ i)) P d x (written x (Put n b c))
-      (λ v. ⊎_elim (λ o. inl o) (λ new. inr (cc)) (has_push_cases x.history (Put n b c) (Put n b i) v))
+      (λ v. ⊎_elim (λ o. inl o) (λ new. inr (cc)) (Contains-push_cases x.history (Put n b c) (Put n b i) v))
       (λ e v. inl v) e
 
   grows_put : (n b : ℕ) (c : Command) → taken (Put n b c) x.journal ≡ true
@@ -209,7 +209,7 @@ module _ (f : Membership) (S : Command → Type 0) (P : ℕ → Past) (d : ℕ) 
         owned =
             subst (λ (e : ℕ). Voted (upd P d (written x (Put n b c)) e) n b c) (sym own)
             (subst (λ (y : Past). Voted y n b c) (sym (upd_here P d (written x (Put n b c))))
-            (has_push x.history (Put n b c)));
+            (Contains-push x.history (Put n b c)));
         unique = λ e i w. ⊎_elim (λ o. absurd (nobody e i o)) (λ s. s) (old_or_new n b c e i w);
         safe =
             subst (SafeAt (upd P d (written x (Put n b c))) n b c) (sym (chain_put n b c))

@@ -1,6 +1,6 @@
 -- Directors agree: what is proved of every run.
 use Rattle.std.specs.Prelude.{◌≡◌, ℕ, ◌+◌, ◌≤◌, false, ◌⊎◌, List, ◌++◌, length}
-use Rattle.std.specs.List.{ContainsAt as Has}
+use Rattle.std.specs.List.{Contains}
 use Rattle.archive.specs.Layout.{layout}
 use Rattle.command.specs.declared.Command.{Command}
 use Rattle.command.specs.Chains.{chain_for}
@@ -31,7 +31,7 @@ led_to k w d = after k.make.rule k.make.start (for_machine (settled_list w d))
 pub record Submitted (c : Command) (es : List Event) : Type 0 where
   pub director : ℕ
   pub places : ℕ
-  pub among : Has es (record { director = director; call = submit c; places = places; ending = accepted })
+  pub among : Contains es (record { director = director; call = submit c; places = places; ending = accepted })
 
 -- two directors of equally long lists
 abbrev pub Level : World → ℕ → ℕ → Type 0
@@ -53,7 +53,7 @@ pub record Agree (k : Cluster) (es : List Event) (v w : World) : Type 0 where
   pub machines : (d e : ℕ) → Level w d e → (w.seats d).outstanding ≡ false → (w.seats e).outstanding ≡ false
       → (w.seats d).machine ≡ (w.seats e).machine
   -- every settled command was submitted, and the submit was accepted
-  pub submitted : (d : ℕ) (c : Command) → Has (settled_list w d) c → Submitted c es
+  pub submitted : (d : ℕ) (c : Command) → Contains (settled_list w d) c → Submitted c es
 
 -- directors agree in every run, over any first part of it
 abbrev pub DirectorsAgree : Type 0

@@ -1,7 +1,7 @@
 -- The seven calls of a director, and what each of them does where it is not refused. What hearing a message does is in
 -- Hearing.antt, and when a call is refused in Refusing.antt.
-use Rattle.std.specs.Prelude.{◌≡◌, ℕ, ◌+◌, ◌*◌, ◌/◌, ◌<◌, ◌≤◌, Bool, cond, not, ◌&&◌, List, [], ◌∷◌, ◌++◌, map, drop, Some, None, filter, Option, ◌==◌, nat_le, nat_lt}
-use Rattle.std.specs.List.{flat_map}
+use Rattle.std.specs.Prelude.{◌≡◌, ℕ, ◌+◌, ◌*◌, ◌/◌, ◌<◌, ◌≤◌, Bool, cond, not, ◌&&◌, List, [], ◌∷◌, ◌++◌, map, drop, Some, None, filter, Option, ◌==◌, nat_le, nat_lt, find, is_some, slice_get}
+use Rattle.std.specs.List.{flat_map, range_with_len, list_any}
 use Rattle.command.specs.declared.Command.{Command}
 use Rattle.command.specs.declared.sets.DirectorSet.{DirectorSet}
 use Rattle.command.specs.Members.{is_member}
@@ -12,7 +12,6 @@ use Rattle.journal.specs.declared.writes.Write.TheVariants.{Promise, Put}
 use Rattle.journal.specs.Windows.{span, element_at}
 use Rattle.journal.specs.Meaning.{blank}
 use Rattle.protocol.specs.declared.messages.Message.{Message}
-use Rattle.protocol.specs.Lists.{up_from, any_of, first_of, head_of, is_there}
 use Rattle.protocol.specs.Messages.{owner, prepare, fetch}
 use Rattle.protocol.specs.Desks.{Role, following, standing, Desk, Step, ◌▸◌, quiet, write, send, become, repeat}
 use Rattle.protocol.specs.Desks.{settled_by, promised, me, itself, ack_of, with_role, with_ack, cleared}
@@ -46,11 +45,11 @@ leading d = standing (itself d) [] d.journal.places
 
 -- e is another director and a member for any slot of the window
 unfoldable pub addressed : Desk → ℕ → Bool
-addressed d e = not (e == me d) && any_of (λ n. is_member e (chain_of d n)) (window d)
+addressed d e = not (e == me d) && list_any (λ n. is_member e (chain_of d n)) (window d)
 
 -- PREPARE for the next slot to those whom the test names, ascending
 unfoldable pub prepares : (ℕ → Bool) → Desk → List Message
-prepares named d = map (λ e. prepare (me d) e (promised d) (settled_by d + 1)) (filter named (up_from 0 32))
+prepares named d = map (λ e. prepare (me d) e (promised d) (settled_by d + 1)) (filter named (range_with_len 0 32))
 
 unfoldable pub stood : Step
 stood =
@@ -62,7 +61,7 @@ stood =
 
 -- the lowest slot of the window without an entry of the promised ballot
 unfoldable pub lowest_free : Desk → Option ℕ
-lowest_free d = first_of (λ n. not ((open_at d n).ballot == promised d)) (window d)
+lowest_free d = find (λ n. not ((open_at d n).ballot == promised d)) (window d)
 
 abbrev pub promisers : Role → DirectorSet
 promisers following = record { bits = 0 }
@@ -82,7 +81,7 @@ is_unreported n reports = (element_at blank reports n).ballot == 0
 abbrev pub command_for : ℕ → Role → Option Command
 command_for n following = None
 command_for n (standing q line reports) =
-    cond (is_unreported n reports) (head_of line) (Some (element_at blank reports n).command)
+    cond (is_unreported n reports) (slice_get line 0) (Some (element_at blank reports n).command)
 
 -- which leaves the line if it stood there
 abbrev pub fed : ℕ → Role → Role
@@ -119,7 +118,7 @@ propose_any None = quiet
 propose_any (Some x) = propose x
 
 unfoldable pub propose_all : Step
-propose_all = repeat (λ d. is_there (proposal d)) (λ d. propose_any (proposal d) d) span
+propose_all = repeat (λ d. is_some (proposal d)) (λ d. propose_any (proposal d) d) span
 
 unfoldable pub pumped : Step
 pumped = propose_all ▸ advance

@@ -104,11 +104,10 @@ abbrev pub ack_of : State → ℕ → Acknowledged
 ack_of s n = element_at none s.acks n
 
 abbrev pub with_role : Role → State → State
-with_role r s = record { number = s.number; founding = s.founding; role = r; acks = s.acks }
+with_role r s = record s { role = r }
 
 abbrev pub with_ack : ℕ → Acknowledged → State → State
-with_ack n a s =
-    record { number = s.number; founding = s.founding; role = s.role; acks = put_at s.acks n a }
+with_ack n a s = record s { acks = put_at s.acks n a }
 
 -- a director that stops standing has no promisers, line and reports any more
 abbrev pub stopped : State → State
@@ -124,5 +123,4 @@ forget n s = with_ack n none (with_role (reports_without n s.role) s)
 
 -- all that a director knows but for its journal is gone, save its number and the founding chain
 abbrev pub cleared : State → State
-cleared s =
-    record { number = s.number; founding = s.founding; role = following; acks = replicate span none }
+cleared s = record s { role = following; acks = replicate span none }

@@ -1,5 +1,6 @@
 -- What a director does with a message that it does not refuse.
 use Rattle.std.specs.Prelude.{ℕ, ◌+◌, ◌-◌, min, Bool, cond, not, ◌&&◌, ◌||◌, ltb, leb, List, [], ◌∷◌, map, Some, None, Option, ◌==◌, bit_or, nat_eq, nat_le, nat_lt}
+use Rattle.std.specs.List.{range_with_len}
 use Rattle.command.specs.declared.Command.{Command}
 use Rattle.command.specs.Members.{is_member}
 use Rattle.command.specs.Sets.{with_director}
@@ -11,7 +12,6 @@ use Rattle.protocol.specs.declared.kinds.Kind.{Kind}
 use Rattle.protocol.specs.declared.kinds.Kind.TheVariants.{Prepare, Promise, Accept, Acked, Learn, Fetch}
 use Rattle.protocol.specs.declared.messages.Acknowledged.{Acknowledged}
 use Rattle.protocol.specs.declared.messages.Message.{Message}
-use Rattle.protocol.specs.Lists.{up_from}
 use Rattle.protocol.specs.Messages.{kind_of, owner, promise, learn}
 use Rattle.protocol.specs.Desks.{Role, following, standing, Desk, Step, ◌▸◌, quiet, write, send, become, choose}
 use Rattle.protocol.specs.Desks.{settled_by, promised, me, ack_of, with_role, with_ack, stopped}
@@ -25,13 +25,13 @@ obey b = choose (λ d. ltb (promised d) b) (write (Promised b) ▸ become stoppe
 -- LEARN for the settled slots from s on, at most 8, ascending; none if s is not settled
 unfoldable pub learns : ℕ → ℕ → Desk → List Message
 learns to s d =
-    map (λ n. learn (me d) to n (settled_of d.journal n)) (up_from s (min (settled_by d) (s + 7) + 1 - s))
+    map (λ n. learn (me d) to n (settled_of d.journal n)) (range_with_len s (min (settled_by d) (s + 7) + 1 - s))
 
 -- PREPARE: obey; then tell the owner what is settled from the slot on, or promise and tell the open entries.
 
 -- the open entries of the slots s to s + 7
 abbrev pub entries_from : Desk → ℕ → List Entry
-entries_from d s = map (open_at d) (up_from s span)
+entries_from d s = map (open_at d) (range_with_len s span)
 
 unfoldable pub heard_prepare : Message → Step
 heard_prepare m =

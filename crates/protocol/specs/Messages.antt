@@ -1,5 +1,6 @@
 -- Messages: their kinds, who owns a ballot, what each kind carries, and which messages are malformed.
-use Rattle.std.specs.Prelude.{ℕ, ◌%◌, Bool, true, false, cond, not, ◌||◌, List, replicate, Some, None, Option, ◌==◌, nat_lt}
+use Rattle.std.specs.Prelude.{◌≡◌, ℕ, ◌%◌, Bool, true, false, cond, not, ◌||◌, List, replicate, Some, None, Option, Result, MatchResult, ◌==◌, nat_lt}
+use Rattle.std.specs.List.{list_any}
 use Rattle.command.specs.declared.Command.{Command}
 use Rattle.command.specs.declared.sets.DirectorSet.{DirectorSet}
 use Rattle.command.specs.Commands.{well_formed}
@@ -7,8 +8,8 @@ use Rattle.journal.specs.declared.writes.Entry.{Entry}
 use Rattle.journal.specs.Meaning.{noop, blank}
 use Rattle.protocol.specs.declared.kinds.Kind.{Kind}
 use Rattle.protocol.specs.declared.kinds.Kind.TheVariants.{Prepare, Promise, Accept, Acked, Learn, Fetch}
+use Rattle.protocol.specs.declared.kinds.UnknownKind.{UnknownKind}
 use Rattle.protocol.specs.declared.messages.Message.{Message}
-use Rattle.protocol.specs.Lists.{any_of}
 
 -- the number of each kind
 abbrev pub kind_number : Kind → ℕ
@@ -27,6 +28,10 @@ kind_of n =
     (cond (n == 3) (Some Accept)
     (cond (n == 4) (Some Acked) (cond (n == 5) (Some Learn) (cond (n == 6) (Some Fetch) None)))))
 
+-- the result is the kind of this number, or an error with a number that is no kind's
+abbrev pub Decodes : ℕ → Result Kind UnknownKind → Type 0
+Decodes n r = MatchResult r (λ kind. kind_of n ≡ Some kind) (λ e. (e.0 ≡ n) × (kind_of n ≡ None))
+
 -- the director that owns a ballot
 abbrev pub owner : ℕ → ℕ
 owner b = b % 32
@@ -39,95 +44,44 @@ blanks = replicate 8 blank
 
 -- What each kind carries. Fields that a kind does not use are 0 or blank.
 
--- asks to promise the ballot, and to tell of the slots from s on
-abbrev pub prepare : ℕ → ℕ → ℕ → ℕ → Message
-prepare from to b s =
+-- with no more than a ballot and a slot
+abbrev pub plain : Kind → ℕ → ℕ → ℕ → ℕ → Message
+plain kind from to b n =
     record {
-      kind = 1;
+      kind = kind_number kind;
       from = from;
       to = to;
       ballot = b;
-      slot = s;
+      slot = n;
       command = noop;
       set = nobody;
       upto = 0;
       entries = blanks;
     }
+
+-- asks to promise the ballot, and to tell of the slots from s on
+abbrev pub prepare : ℕ → ℕ → ℕ → ℕ → Message
+prepare from to b s = plain Prepare from to b s
 
 -- promises the ballot, with the open entries of the slots s to s + 7
 abbrev pub promise : ℕ → ℕ → ℕ → ℕ → List Entry → Message
-promise from to b s es =
-    record {
-      kind = 2;
-      from = from;
-      to = to;
-      ballot = b;
-      slot = s;
-      command = noop;
-      set = nobody;
-      upto = 0;
-      entries = es;
-    }
+promise from to b s es = record (plain Promise from to b s) { entries = es }
 
 -- asks to put the command into slot n; those of the set did, and the owner of the ballot has settled the slots up to u
 abbrev pub accept : ℕ → ℕ → ℕ → ℕ → Command → DirectorSet → ℕ → Message
-accept from to b n c set u =
-    record {
-      kind = 3;
-      from = from;
-      to = to;
-      ballot = b;
-      slot = n;
-      command = c;
-      set = set;
-      upto = u;
-      entries = blanks;
-    }
+accept from to b n c set u = record (plain Accept from to b n) { command = c; set = set; upto = u }
 
 -- tells the ballot's owner that those of the set put slot n
 abbrev pub acked : ℕ → ℕ → ℕ → ℕ → DirectorSet → Message
-acked from to b n set =
-    record {
-      kind = 4;
-      from = from;
-      to = to;
-      ballot = b;
-      slot = n;
-      command = noop;
-      set = set;
-      upto = 0;
-      entries = blanks;
-    }
+acked from to b n set = record (plain Acked from to b n) { set = set }
 
 -- tells the command that is settled in slot n
 abbrev pub learn : ℕ → ℕ → ℕ → Command → Message
-learn from to n c =
-    record {
-      kind = 5;
-      from = from;
-      to = to;
-      ballot = 0;
-      slot = n;
-      command = c;
-      set = nobody;
-      upto = 0;
-      entries = blanks;
-    }
+learn from to n c = record (plain Learn from to 0 n) { command = c }
 
 -- asks for the settled commands from slot n on
 abbrev pub fetch : ℕ → ℕ → ℕ → Message
-fetch from to n =
-    record {
-      kind = 6;
-      from = from;
-      to = to;
-      ballot = 0;
-      slot = n;
-      command = noop;
-      set = nobody;
-      upto = 0;
-      entries = blanks;
-    }
+fetch from to n = plain Fetch from to 0 n
 
 -- Malformed messages.
 
@@ -155,7 +109,7 @@ abbrev pub odd_as : Option Kind → ℕ → Message → Bool
 odd_as None hearer m = true
 odd_as (Some Prepare) hearer m = m.ballot == 0 || not (is_owner m.from m.ballot)
 odd_as (Some Promise) hearer m =
-    (m.ballot == 0) || any_of (odd_entry m.ballot) m.entries || not (is_owner hearer m.ballot)
+    (m.ballot == 0) || list_any (odd_entry m.ballot) m.entries || not (is_owner hearer m.ballot)
 odd_as (Some Accept) hearer m = m.ballot == 0 || odd_command m.command || is_owner hearer m.ballot
 odd_as (Some Acked) hearer m = m.ballot == 0 || not (is_owner hearer m.ballot)
 odd_as (Some Learn) hearer m = odd_command m.command

@@ -1,5 +1,6 @@
 -- Whom a director passes a slot on to.
-use Rattle.std.specs.Prelude.{ℕ, ◌+◌, ◌-◌, Bool, cond, not, ◌&&◌, ◌||◌, List, [], ◌∷◌, ◌++◌, drop, Some, None, Option, ◌==◌}
+use Rattle.std.specs.Prelude.{ℕ, ◌+◌, ◌-◌, Bool, cond, not, ◌&&◌, ◌||◌, List, [], ◌∷◌, ◌++◌, drop, Some, None, Option, ◌==◌, find}
+use Rattle.std.specs.List.{range_with_len, list_any, before_first, after_first}
 use Rattle.command.specs.declared.Command.{Command}
 use Rattle.command.specs.declared.sets.DirectorSet.{DirectorSet}
 use Rattle.command.specs.Chains.{chain_for}
@@ -8,7 +9,6 @@ use Rattle.journal.specs.declared.writes.Entry.{Entry}
 use Rattle.journal.specs.Windows.{span}
 use Rattle.journal.specs.Meaning.{open_of}
 use Rattle.protocol.specs.declared.messages.Message.{Message}
-use Rattle.protocol.specs.Lists.{up_from, any_of, first_of}
 use Rattle.protocol.specs.Messages.{is_owner, accept, acked}
 use Rattle.protocol.specs.Desks.{Desk, Step, settled_by, me, send}
 
@@ -21,7 +21,7 @@ open_at d n = open_of d.journal n
 
 -- the slots that are not settled and can have an entry
 abbrev pub window : Desk → List ℕ
-window d = up_from (settled_by d + 1) span
+window d = range_with_len (settled_by d + 1) span
 
 -- the command removes director e
 abbrev pub removes : ℕ → Command → Bool
@@ -30,25 +30,16 @@ removes e c = c.verb == 2 && c.a == e
 -- e is about to leave the chain: an open entry, or one of the last 8 settled commands, removes it
 unfoldable pub marked : Desk → ℕ → Bool
 marked d e =
-    any_of (λ n. removes e (open_at d n).command) (window d)
-    || any_of (removes e) (drop (settled_by d - span) d.journal.settled)
-
--- those after director d in the list, and those before it
-abbrev pub behind : ℕ → List ℕ → List ℕ
-behind d [] = []
-behind d (m ∷ ms) = cond (m == d) ms (behind d ms)
-
-abbrev pub ahead : ℕ → List ℕ → List ℕ
-ahead d [] = []
-ahead d (m ∷ ms) = cond (m == d) [] (m ∷ ahead d ms)
+    list_any (λ n. removes e (open_at d n).command) (window d)
+    || list_any (removes e) (drop (settled_by d - span) d.journal.settled)
 
 -- the other members in the order of the ring, from the one after director d on; none if d is no member
 abbrev pub others : ℕ → List ℕ → List ℕ
-others d ms = cond (is_member d ms) (behind d ms ++ ahead d ms) []
+others d ms = cond (is_member d ms) (after_first (λ m. m == d) ms ++ before_first (λ m. m == d) ms) []
 
 -- next for slot n: the first other in the ring that owns the entry's ballot or is not marked
 unfoldable pub next : Desk → ℕ → Option ℕ
-next d n = first_of (λ e. is_owner e (open_at d n).ballot || not (marked d e)) (others (me d) (chain_of d n))
+next d n = find (λ e. is_owner e (open_at d n).ballot || not (marked d e)) (others (me d) (chain_of d n))
 
 -- what goes to the next one: the set, to the ballot's owner as ACKED, to any other with command and upto as ACCEPT
 abbrev pub passed_to : Option ℕ → Desk → ℕ → DirectorSet → ℕ → List Message

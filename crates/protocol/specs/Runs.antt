@@ -1,7 +1,7 @@
 -- Runs: directors with their journals and machines, called in any order, with messages lost, repeated and late, and
 -- power that fails inside calls. A message that is lost is one that is never heard.
 use Rattle.std.specs.Prelude.{◌≡◌, ℕ, ◌≤◌, Bool, true, false, cond, List, [], ◌∷◌, ◌++◌, take, Ok, Err, Result, ◌==◌}
-use Rattle.std.specs.List.{ContainsAt as Has}
+use Rattle.std.specs.List.{Contains}
 use Rattle.command.specs.Members.{founded}
 use Rattle.journal.specs.declared.writes.Write.{Write}
 use Rattle.journal.specs.Meaning.{Meaning, fresh, replay}
@@ -68,9 +68,8 @@ pub record Event : Type 0 where
 -- the seat after an accepted call
 abbrev pub seat_after : Make → Call → Seat → Outcome → Seat
 seat_after make call s o =
-    record {
+    record s {
       state = o.state;
-      capacity = s.capacity;
       history = s.history ++ o.writes;
       machine = (machine_after make call (desk_of s) s.machine o).0;
       outstanding = false;
@@ -84,9 +83,8 @@ writes_of (Err r) = []
 -- The seat after a cut: the first so many writes of the call stand. Of memory and machine nothing is known.
 abbrev pub seat_cut : Seat → List Write → State → List ℕ → Seat
 seat_cut s ws memory machine =
-    record {
+    record s {
       state = memory;
-      capacity = s.capacity;
       history = s.history ++ ws;
       machine = machine;
       outstanding = true;
@@ -105,7 +103,7 @@ with_seat w d s ms = record { seats = λ e. cond (e == d) s (w.seats e); sent = 
 pub record Possible (w : World) (d : ℕ) (call : Call) : Type 0 where
   pub director : d ≤ 31
   pub reaches : (w.seats d).outstanding ≡ true → is_restart call ≡ true
-  pub comes : (m : Message) → call ≡ hear m → Has w.sent m
+  pub comes : (m : Message) → call ≡ hear m → Contains w.sent m
 
 -- one call, from one world to the next
 pub data Next (make : Make) (w : World) (d : ℕ) (call : Call) (places : ℕ) : Ending → World → Type 0 where

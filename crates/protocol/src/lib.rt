@@ -9,7 +9,7 @@ mod messages;
 mod refusals;
 mod windows;
 
-pub use kinds::Kind;
+pub use kinds::{Kind, UnknownKind};
 pub use laws::table_places;
 pub use messages::{Acknowledged, Message, Reply};
 pub use refusals::Refusal;

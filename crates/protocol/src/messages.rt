@@ -5,6 +5,7 @@ use journal::Entry;
 
 /// A message from one director to another, with any content. Which fields count depends on the kind; the others are
 /// sent as 0 or blank and are ignored.
+// Plain numbers for kind, sender and hearer: whatever comes in is a message, and `hear` tells what is wrong in it.
 #[derive(Clone, Copy, PartialEq, Eq, Debug)]
 pub struct Message {
     pub kind: u8,
@@ -25,11 +26,19 @@ pub struct Acknowledged {
     pub set: DirectorSet,
 }
 
+impl Acknowledged {
+    /// Nothing is known of who put the slot.
+    pub const NONE: Acknowledged = Acknowledged {
+        ballot: 0,
+        set: DirectorSet::EMPTY,
+    };
+}
+
 /// What an accepted call answers: how many messages it wrote to the table, how many slots are settled now, and the
-/// machine's last answer in this call, or 0.
+/// machine's last answer in this call, if it gave one.
 #[derive(Clone, Copy, PartialEq, Eq, Debug)]
 pub struct Reply {
     pub messages: usize,
     pub settled: u32,
-    pub answer: u16,
+    pub answer: Option<u16>,
 }

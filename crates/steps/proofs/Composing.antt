@@ -10,14 +10,14 @@ use Rattle.journal.proofs.Histories.{step_taken}
 use Rattle.machine.specs.Rules.{Rule}
 use Rattle.protocol.specs.declared.messages.Message.{Message}
 use Rattle.protocol.specs.Desks.{State, Desk, Outcome, Step, left, both, go_on, write, become, forget, ◌▸◌}
-use Rattle.protocol.specs.Replies.{ran, settled_in}
+use Rattle.protocol.specs.Replies.{ran, settled_in, Ran}
 use Rattle.protocol.specs.Settling.{settle}
 use Rattle.protocol.proofs.Growing.{replay_append}
 use Rattle.steps.specs.Doing.{Did}
 use Rattle.steps.proofs.Running.{ran_append, settled_append}
 
 -- what a write leaves
-pub wrote_step : (w : Write) (m : Meaning) → replay m (wrote w m) ≡ step w m
+wrote_step : (w : Write) (m : Meaning) → replay m (wrote w m) ≡ step w m
 unfolding wrote step
 wrote_step w m = go (taken w m) refl
   where
@@ -25,17 +25,17 @@ wrote_step w m = go (taken w m) refl
     go true e = step_taken w m e
     go false e = refl
 
-pub wrote_taken : (w : Write) (m : Meaning) → taken w m ≡ true → wrote w m ≡ w ∷ []
+wrote_taken : (w : Write) (m : Meaning) → taken w m ≡ true → wrote w m ≡ w ∷ []
 unfolding wrote
 wrote_taken w m e = ap (λ b. cond b (w ∷ []) []) e
 
-pub wrote_untaken : (w : Write) (m : Meaning) → taken w m ≡ false → wrote w m ≡ []
+wrote_untaken : (w : Write) (m : Meaning) → taken w m ≡ false → wrote w m ≡ []
 unfolding wrote
 wrote_untaken w m e = ap (λ b. cond b (w ∷ []) []) e
 
 -- One step after another.
 
-module _ (rule : Rule) (d e k : Desk) (o p : Outcome) (B C D : List Write → Type 0) (u v w : List ℕ × ℕ) where
+module _ (rule : Rule) (d e k : Desk) (o p : Outcome) (B C D : List Write → Type 0) (u v w : Ran) where
   pub did_both : Did rule d o e B C u v → Did rule e p k C D v w → Did rule d (both o p) k B D u w
   unfolding both left
   did_both first second =
@@ -48,13 +48,13 @@ module _ (rule : Rule) (d e k : Desk) (o p : Outcome) (B C D : List Write → Ty
             subst D (append_assoc ws o.writes p.writes) (second.history (ws ++ o.writes) (first.history ws b));
         machine =
             second.machine
-            ∙ ap (λ (x : List ℕ × ℕ). ran rule x (settled_in p.writes)) first.machine
+            ∙ ap (λ (x : Ran). ran rule x (settled_in p.writes)) first.machine
             ∙ sym (ran_append rule u (settled_in o.writes) (settled_in p.writes))
             ∙ ap (ran rule u) (sym (settled_append o.writes p.writes));
       }
 
 -- a step, then the next one at the desk that the first left
-pub did_then : (rule : Rule) (d e k : Desk) (first next : Step) (B C D : List Write → Type 0) (u v w : List ℕ × ℕ)
+pub did_then : (rule : Rule) (d e k : Desk) (first next : Step) (B C D : List Write → Type 0) (u v w : Ran)
     → Did rule d (first d) e B C u v → Did rule e (next e) k C D v w → Did rule d ((first ▸ next) d) k B D u w
 unfolding go_on
 did_then rule d e k first next B C D u v w one two =
@@ -63,39 +63,42 @@ did_then rule d e k first next B C D u v w one two =
     (subst (λ (x : Desk). Did rule x (next x) k C D v w) one.desk two)
 
 -- a step that writes nothing
-pub did_still : (rule : Rule) (d : Desk) (s : State) (ms : List Message) (B : List Write → Type 0) (u : List ℕ × ℕ)
+pub did_still : (rule : Rule) (d : Desk) (s : State) (ms : List Message) (B : List Write → Type 0) (u : Ran)
     → Did rule d (record { state = s; writes = []; messages = ms }) (record { state = s; journal = d.journal }) B B u u
 unfolding left ran
 did_still rule d s ms B u =
     record { desk = refl; history = λ ws b. subst B (sym (append-nil ws)) b; machine = refl }
 
--- settling a command
-pub settle_did : (rule : Rule) (m n : Meaning) (s t : State) (c : Command) (B C : List Write → Type 0)
-    (u v : List ℕ × ℕ) → n ≡ step (Settle c) m → ((ws : List Write) → B ws → C (ws ++ wrote (Settle c) m))
-    → t ≡ forget (settled_count m + 1) s → v ≡ ran rule u (settled_in (wrote (Settle c) m))
-    → Did rule (record { state = s; journal = m }) (settle c (record { state = s; journal = m }))
-    (record { state = t; journal = n }) B C u v
-unfolding settle go_on left both write become
-settle_did rule m n s t c B C u v journal history state machine =
-    let ws = append-nil (wrote (Settle c) m) in
-    let after = journal ∙ sym (wrote_step (Settle c) m) ∙ ap (replay m) (sym ws) in
-    record {
-      desk = λ i. record { state = state i; journal = after i };
-      history = λ vs b. subst (λ (l : List Write). C (vs ++ l)) (sym ws) (history vs b);
-      machine = machine ∙ ap (λ (l : List Write). ran rule u (settled_in l)) (sym ws);
-    }
+-- settling a command in the slot after k, from m and s to n and t
+module _ (rule : Rule) (m n : Meaning) (s t : State) (c : Command) (k : ℕ) (B C : List Write → Type 0)
+    (count : k ≡ settled_count m) (journal : n ≡ step (Settle c) m)
+    (history : (ws : List Write) → B ws → C (ws ++ wrote (Settle c) m)) (state : t ≡ forget (k + 1) s) where
+  settled : (u v : Ran) (ws : List Write) → wrote (Settle c) m ≡ ws → v ≡ ran rule u (settled_in ws)
+      → Did rule (record { state = s; journal = m }) (settle c (record { state = s; journal = m }))
+      (record { state = t; journal = n }) B C u v
+  unfolding settle go_on left both write become
+  settled u v ws is machine =
+      let all = append-nil (wrote (Settle c) m) in
+      let next = state ∙ ap (λ (j : ℕ). forget (j + 1) s) count in
+      let after = journal ∙ sym (wrote_step (Settle c) m) ∙ ap (replay m) (sym all) in
+      record {
+        desk = λ i. record { state = next i; journal = after i };
+        history = λ vs b. subst (λ (l : List Write). C (vs ++ l)) (sym all) (history vs b);
+        machine = machine ∙ ap (λ (l : List Write). ran rule u (settled_in l)) (sym is ∙ sym all);
+      }
 
--- what the machine does where the settle was taken, and where it was not
-pub settle_ran : (rule : Rule) (m : Meaning) (c : Command) (u v : List ℕ × ℕ) → taken (Settle c) m ≡ true
-    → v ≡ ran rule u (c ∷ []) → v ≡ ran rule u (settled_in (wrote (Settle c) m))
-settle_ran rule m c u v t e =
-    e ∙ ap (λ (l : List Write). ran rule u (settled_in l)) (sym (wrote_taken (Settle c) m t))
+  -- where the settle was taken
+  pub settle_taken : (u v : Ran) → taken (Settle c) m ≡ true → v ≡ ran rule u (c ∷ [])
+      → Did rule (record { state = s; journal = m }) (settle c (record { state = s; journal = m }))
+      (record { state = t; journal = n }) B C u v
+  settle_taken u v is = settled u v (Settle c ∷ []) (wrote_taken (Settle c) m is)
 
-pub settle_still : (rule : Rule) (m : Meaning) (c : Command) (u v : List ℕ × ℕ) → taken (Settle c) m ≡ false → v ≡ u
-    → v ≡ ran rule u (settled_in (wrote (Settle c) m))
-unfolding ran
-settle_still rule m c u v t e =
-    e ∙ ap (λ (l : List Write). ran rule u (settled_in l)) (sym (wrote_untaken (Settle c) m t))
+  -- and where it was not
+  pub settle_untaken : (u : Ran) → taken (Settle c) m ≡ false
+      → Did rule (record { state = s; journal = m }) (settle c (record { state = s; journal = m }))
+      (record { state = t; journal = n }) B C u u
+  unfolding ran
+  settle_untaken u is = settled u u [] (wrote_untaken (Settle c) m is) refl
 
 -- a settle that is taken has a slot
 pub settle_low : (m : Meaning) (c : Command) → taken (Settle c) m ≡ true → settled_count m < m.capacity

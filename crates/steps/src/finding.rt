@@ -1,7 +1,6 @@
 //! How the chains of the window are found, and how they move.
 
 ghost use Rattle.std.specs.Prelude.{◌<◌, []};
-ghost use Rattle.command.specs.Chains.{membership};
 ghost use Rattle.steps.specs.Chains.{Tells, Follows, Told};
 
 use crate::chains::Chains;
@@ -11,7 +10,7 @@ use protocol::place_of;
 impl Chains {
     /// The chains of the first eight slots: each is the founding chain.
     pub fn founded(founding: &Chain) -> Chains
-        ensures { Tells (membership founding.now) [] result }
+        ensures { Tells founding.now [] result }
     {
         Chains {
             places: [*founding; 8],
@@ -32,8 +31,8 @@ impl Chains {
         requires { self.old.settled < 60000 }
         ensures { Follows self.old command.now self.new }
     {
-        let last = self.places[place_of(self.settled)];
+        let next = self.get(self.settled + 8).after(command);
         self.settled += 1;
-        self.places[place_of(self.settled)] = last.after(command);
+        self.places[place_of(self.settled)] = next;
     }
 }

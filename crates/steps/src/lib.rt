@@ -3,9 +3,11 @@
 #![tactic(auto)]
 
 mod chains;
+mod desks;
 mod finding;
 mod memory;
 mod settling;
 
 pub use chains::Chains;
+pub use desks::Desk;
 pub use memory::{Memory, Role};

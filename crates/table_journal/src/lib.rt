@@ -2,8 +2,6 @@
 
 #![tactic(auto)]
 
-mod journals;
-mod making;
 mod refusals;
 mod tables;
 
@@ -32,6 +30,13 @@ mod tests {
         assert_eq!(rt; TableJournal::new(heap, 70_000)?.capacity(), 60_000);
         assert_eq!(rt; TableRefusal::NoRecord.number(), Some(12));
         assert!(rt; TableJournal::new(heap, 0).is_err());
+        Ok(())
+    }
+
+    #[test]
+    fn a_refusal_tells_why(rt: HostRuntime) -> Result<(), Fail> {
+        let told = format!(in rt.alloc(); "{}", TableRefusal::NoRecord)?;
+        assert_eq!(rt; told.as_str(), "a journal has at least one record");
         Ok(())
     }
 

@@ -1,10 +1,15 @@
 //! Why no journal in memory was made.
 
-ghost use Rattle.table_journal.specs.Refusals.{refusal_number};
 ghost use Rattle.std.specs.Prelude.{◌≡◌};
+ghost use Rattle.table_journal.specs.Refusals.{refusal_number};
+ghost use Rattle.table_journal.specs.declared.refusals.TableRefusal.TheVariants.{Memory};
+
+use std::alloc::AllocError;
+use std::error::Error;
+use std::fmt;
 
 /// Why no journal was made.
-#[derive(Clone, Copy, PartialEq, Eq, Debug)]
+#[derive(Clone, Copy, PartialEq, Eq, Hash, Debug)]
 pub enum TableRefusal {
     /// A journal of 0 records was asked for (refusal 12).
     NoRecord,
@@ -23,3 +28,22 @@ impl TableRefusal {
         }
     }
 }
+
+impl From<AllocError> for TableRefusal {
+    ghost from_gives = { λ _ e. e ≡ Memory };
+
+    fn from(_error: AllocError) -> Self {
+        Self::Memory
+    }
+}
+
+impl fmt::Display for TableRefusal {
+    fn fmt<W: fmt::Write>(&self, f: &mut fmt::Formatter<W>) -> fmt::Result {
+        f.write_str(match self {
+            TableRefusal::NoRecord => "a journal has at least one record",
+            TableRefusal::Memory => "out of memory",
+        })
+    }
+}
+
+impl Error for TableRefusal {}

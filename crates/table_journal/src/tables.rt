@@ -1,20 +1,156 @@
-//! The table as a value that cannot be wrong: it always has room for as many commands as it has slots.
+//! A journal in memory, which always has room for as many commands as it has slots.
 
-ghost use Rattle.std.specs.Prelude.{◌≡◌, ◌≤◌, length, vec_len, vec_capacity};
+ghost use Rattle.journal.specs.Meaning.{Within};
+ghost use Rattle.std.specs.Prelude.{◌≡◌, ◌≤◌, MatchResult, vec_items, vec_capacity};
 
+use crate::TableRefusal;
 use command::Command;
-use journal::Entry;
+use journal::{Entry, Journal, MOST_SLOTS, SPAN, Write};
+use std::alloc::Global;
 
 /// A journal in memory. All its memory is taken when it is made, so no write fails for want of memory.
 #[derive(Drop)]
 pub struct TableJournal {
-    pub(crate) capacity: u32,
-    pub(crate) promised: u32,
-    pub(crate) settled: Vec<Command>,
-    pub(crate) places: [Entry; 8],
-    ghost some: { 1 ≤ capacity },
-    ghost most: { capacity ≤ 60000 },
-    ghost held: { vec_len settled ≤ capacity },
+    capacity: u32,
+    promised: u32,
+    settled: Vec<Command>,
+    places: [Entry; SPAN],
+    // Clauses see the fields: the law of journals speaks of each table, and a table seen as its meaning alone would not
+    // keep it.
+    ghost within: { Within (record {
+      capacity = capacity;
+      promised = promised;
+      settled = vec_items settled;
+      places = places;
+    }) },
     ghost room: { capacity ≤ vec_capacity settled },
-    ghost eight: { length places ≡ 8 },
+}
+
+impl TableJournal {
+    ghost use Rattle.journal.specs.Meaning.{settled_count, taken, Writes};
+    ghost use Rattle.journal.specs.Windows.{in_window};
+    ghost use Rattle.table_journal.specs.Tables.{Made, refusal_for, table_meaning, table_behind};
+
+    /// A new journal with a slot for each record, of more than 60,000 records with 60,000 slots. With 0 records it is
+    /// refusal 12.
+    pub fn new(heap: Global, records: usize) -> Result<TableJournal, TableRefusal>
+        ensures { MatchResult result (λ j. Made records j) (λ e. e ≡ refusal_for records) }
+    {
+        if records == 0 {
+            return Err(TableRefusal::NoRecord);
+        }
+        let capacity = records.min(MOST_SLOTS as usize);
+        Ok(TableJournal {
+            capacity: capacity as u32,
+            promised: 0,
+            settled: Vec::with_capacity(heap, capacity)?,
+            places: [Entry::BLANK; SPAN],
+        })
+    }
+
+    // Whether a slot has an open entry.
+    fn is_open(&self, slot: u32) -> bool
+        ensures { result ≡ in_window (settled_count (table_meaning self.now)) slot }
+    {
+        let count = self.settled.len() as u32;
+        count < slot && slot <= count + SPAN as u32
+    }
+
+    // Whether a write is taken.
+    #[tactic(auto, unfolding(journal::specs::Meaning::taken))]
+    fn takes(&self, write: Write) -> bool
+        ensures { result ≡ taken write (table_meaning self.now) }
+    {
+        match write {
+            Write::Promise { ballot } => self.promised <= ballot,
+            Write::Put {
+                slot,
+                ballot,
+                command,
+            } => {
+                ballot == self.promised
+                    && ballot != 0
+                    && self.is_open(slot)
+                    && slot <= self.capacity
+                    && command.is_well_formed()
+            },
+            Write::Settle { command } => (self.settled.len() as u32) < self.capacity
+                && command.is_well_formed(),
+        }
+    }
+
+    // Makes a write if it is taken, and tells whether it was.
+    fn write(&mut self, write: Write) -> bool
+        ensures { Writes table_meaning table_behind write self.old self.new result }
+    {
+        let taken = self.takes(write);
+        if taken {
+            match write {
+                Write::Promise { ballot } => self.promised = ballot,
+                Write::Put {
+                    slot,
+                    ballot,
+                    command,
+                } => self.places[slot as usize % SPAN] = Entry { ballot, command },
+                Write::Settle { command } => {
+                    self.settled.push_reserved(command);
+                    self.places[self.settled.len() % SPAN] = Entry::BLANK;
+                },
+            }
+        }
+        taken
+    }
+}
+
+impl Journal for TableJournal {
+    ghost use Rattle.std.proofs.Common.{rules};
+    ghost use Rattle.table_journal.specs.Tables.{table_meaning, table_behind};
+
+    ghost meaning = { table_meaning };
+
+    ghost behind = { table_behind };
+
+    ghost within = { Prim.search rules };
+
+    fn capacity(&self) -> u32 {
+        self.capacity
+    }
+
+    fn promised(&self) -> u32 {
+        self.promised
+    }
+
+    fn settled_count(&self) -> u32 {
+        self.settled.len() as u32
+    }
+
+    fn settled(&self, slot: u32) -> Command {
+        slot.checked_sub(1)
+            .and_then(|place| self.settled.get(place as usize).copied())
+            .unwrap_or(Command::NOOP)
+    }
+
+    fn open(&self, slot: u32) -> Entry {
+        if self.is_open(slot) {
+            self.places[slot as usize % SPAN]
+        } else {
+            Entry::BLANK
+        }
+    }
+
+    fn promise(&mut self, ballot: u32) -> bool {
+        self.write(Write::Promise { ballot })
+    }
+
+    fn put(&mut self, slot: u32, ballot: u32, command: &Command) -> bool {
+        self.write(Write::Put {
+            slot,
+            ballot,
+            command: *command,
+        })
+    }
+
+    fn settle(&mut self, command: &Command) -> bool {
+        self.write(Write::Settle { command: *command })
+    }
 }

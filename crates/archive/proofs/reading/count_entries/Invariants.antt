@@ -1,13 +1,13 @@
 use Rattle.std.proofs.Common.{◌≡◌, ◌+◌, ◌≤◌, length}
-use Rattle.archive.specs.Reading.{scan_all}
+use Rattle.archive.specs.Reading.{scan_all, counted, counted_as}
 use Rattle.archive.proofs.reading.count_entries.Given as goal
 
--- the entries counted so far and those that are left are all
-abbrev pub invariant-loop-rest : goal.invariant-loop-rest
-invariant-loop-rest l =
-    (l.count + length l.rest ≤ length l.body)
-    × ((scan_all l.end l.rest).broken ≡ (scan_all l.end l.body).broken)
-    × (l.count + length (scan_all l.end l.rest).commands ≡ length (scan_all l.end l.body).commands)
-
-abbrev pub decreases-loop-rest : goal.decreases-loop-rest
-decreases-loop-rest l = length l.rest
+-- those counted so far and those that are left are all
+abbrev pub invariant-loop-count : goal.invariant-loop-count
+invariant-loop-count l =
+    let left = scan_all l.left.end l.left.rest.now in
+    (goal.iterator-loop-count).can_next l.left
+    × (goal.iterator-loop-count).is_finite l.left
+    × (l.count + length l.left.rest.now ≤ length l.initial.left.rest.now)
+    × (counted_as (l.count + length left.commands) left.broken ≡ counted (scan_all l.initial.left.end
+    l.initial.left.rest.now))

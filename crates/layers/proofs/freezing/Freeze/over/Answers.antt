@@ -1,6 +1,5 @@
-use Rattle.std.proofs.Common.{refl}
 use Rattle.layers.proofs.Still.{frozen_below}
 use Rattle.layers.proofs.freezing.Freeze.over.Goals as goal
 
-pub returns : goal.returns
-returns g c = record { start = refl; lower = refl; still = frozen_below g.M.Machine.rule }
+pub returns-clause-still : goal.returns-clause-still
+returns-clause-still g c = frozen_below g.M.Machine.rule

@@ -1,6 +1,8 @@
-use Rattle.std.proofs.Common.{refl}
 use Rattle.machine.proofs.Sharing.{addresses_shared, holdings_balanced}
 use Rattle.machine.proofs.ledgers.Ledger.new.Goals as goal
 
-pub returns : goal.returns
-returns c = record { start = refl; shared = addresses_shared; balanced = holdings_balanced }
+pub returns-clause-shared : goal.returns-clause-shared
+returns-clause-shared c = addresses_shared
+
+pub returns-clause-balanced : goal.returns-clause-balanced
+returns-clause-balanced c = holdings_balanced

@@ -1,0 +1,97 @@
+//! How the programs end: a refusal is one line on the error stream, and the status tells that there was one.
+
+#![tactic(auto)]
+
+ghost use Rattle.std.specs.Prelude.{◌≡◌, IsErr, MatchResult, Ok};
+ghost use Rattle.console.specs.Endings.{status_of};
+
+use anyhow::anyhow;
+use std::fmt;
+use std::fmt::Display;
+use std::process::ExitCode;
+
+/// The status that a program ends with. What went wrong was said where it was found, so nothing is printed here.
+pub fn status(outcome: anyhow::Result<()>) -> ExitCode
+    ensures { result.status ≡ status_of outcome }
+{
+    match outcome {
+        Ok(()) => ExitCode::SUCCESS,
+        Err(_) => ExitCode::FAILURE,
+    }
+}
+
+/// What was done, or else its error, which is said on the error stream. A line that cannot be printed is an error too.
+pub fn or_fail<T: Drop, E: Display + Drop>(
+    rt: &impl Eprint,
+    program: &str,
+    done: Result<T, E>,
+) -> anyhow::Result<T>
+    ensures { MatchResult done (λ value. result ≡ Ok value) (λ _. IsErr result) }
+{
+    match done {
+        Ok(value) => Ok(value),
+        Err(error) => {
+            eprintln!(rt; "{program}: {error}")?;
+            Err(anyhow!("refused"))
+        }
+    }
+}
+
+/// What was done with a file, or else its error, which is said with the name of the file.
+pub fn or_fail_at<T: Drop, E: Display + Drop>(
+    rt: &impl Eprint,
+    program: &str,
+    path: &str,
+    done: Result<T, E>,
+) -> anyhow::Result<T>
+    ensures { MatchResult done (λ value. result ≡ Ok value) (λ _. IsErr result) }
+{
+    match done {
+        Ok(found) => Ok(found),
+        Err(error) => or_fail(rt, program, Err(AtFile { path, error })),
+    }
+}
+
+/// Says why the program ends.
+pub fn fail<E: Display>(rt: &impl Eprint, program: &str, said: &E) -> anyhow::Result<()>
+    ensures { IsErr result }
+{
+    or_fail(rt, program, Err(said))
+}
+
+// An error with the name of the file at which it came.
+#[derive(Drop)]
+struct AtFile<'a, E> {
+    path: &'a str,
+    error: E,
+}
+
+impl<E: Display> Display for AtFile<'_, E> {
+    fn fmt<W: fmt::Write>(&self, f: &mut fmt::Formatter<W>) -> fmt::Result {
+        write!(f, "{}: {}", self.path, self.error)
+    }
+}
+
+#[cfg(test)]
+mod tests {
+    use crate::{fail, or_fail, or_fail_at, status};
+    use std::process::ExitCode;
+    use std::test::Fail;
+
+    #[test]
+    fn what_was_done_goes_on(rt: HostRuntime) -> Result<(), Fail> {
+        let done: Result<u8, &str> = Ok(7);
+        assert_eq!(rt; or_fail(&rt, "year", done)?, 7);
+        assert_eq!(rt; or_fail_at(&rt, "year", "list", done)?, 7);
+        let not_done: Result<u8, &str> = Err("no such file");
+        assert!(rt; or_fail(&rt, "year", not_done).is_err());
+        assert!(rt; or_fail_at(&rt, "year", "list", not_done).is_err());
+        Ok(())
+    }
+
+    #[test]
+    fn a_refusal_ends_with_status_1(rt: HostRuntime) {
+        assert!(rt; status(Ok(())) == ExitCode::SUCCESS);
+        assert!(rt; status(fail(&rt, "year", &"refused 15 at 0")) == ExitCode::FAILURE);
+    }
+}
