@@ -13,7 +13,7 @@ use Rattle.archive.specs.Readers.{Gives, shown}
 use Rattle.archive.specs.declared.reading.Broken.TheVariants.{Entry as BrokenEntry}
 use Rattle.archive.specs.declared.entries.Entry.{Entry}
 use Rattle.archive.specs.declared.entries.Entries.{Entries}
-use Rattle.archive.proofs.OneEntry.{none_some, some_none, reread, rewritten, sized_part}
+use Rattle.archive.proofs.OneEntry.{reread, rewritten, sized_part}
 
 -- an entry has at least one byte, and lies within those that are left
 pub within_left : (bs : List ℕ) (s : ℕ) → size_of bs ≡ Some s → (1 ≤ s) × (s ≤ length bs)
@@ -42,7 +42,7 @@ scan_enough (suc k) (suc m) i (b ∷ bs) h g =
 pub scan_more : (i : ℕ) (bs : List ℕ) (s : ℕ) → size_of bs ≡ Some s
     → scan_all i bs ≡ and_then (command_of bs) (scan_all i (drop s bs))
 unfolding scan
-scan_more i [] s e = absurd (none_some e)
+scan_more i [] s e = absurd (cc)
 scan_more i (b ∷ bs) s e =
     let w = within_left (b ∷ bs) s e in
     let l = length-drop s (b ∷ bs) in
@@ -75,7 +75,7 @@ gave s t x g = go (size_of s.rest.now) refl g.answer
     go : (o : Option ℕ) → size_of s.rest.now ≡ o
         → shown (Some x) ≡ first_of s.end s.rest.now o
         → (k : ℕ) × Gave s x t k
-    go None q h = absurd (some_none h)
+    go None q h = absurd (cc)
     go (Some k) q h = (k, record { size = q; bytes = same _ _ _ _ h; left = g.after ∙ ap (λ o. after o s.rest.now) q })
 
 -- and that none was
@@ -86,7 +86,7 @@ gave_none s t g = go (size_of s.rest.now) refl g.answer
         → shown None ≡ first_of s.end s.rest.now o
         → (size_of s.rest.now ≡ None) × (t.rest.now ≡ s.rest.now)
     go None q h = (q, g.after ∙ ap (λ o. after o s.rest.now) q)
-    go (Some k) q h = absurd (none_some h)
+    go (Some k) q h = absurd (cc)
 
 -- one entry more was counted
 pub counted_more : (n : ℕ) (s t : Entries) (x : Entry) → Gives s (Some x) t
@@ -141,7 +141,7 @@ pub record Whole (bs : List ℕ) (cs : List Command) : Type 0 where
 entries_step : (i : ℕ) (bs : List ℕ) (o : Option ℕ) → size_of bs ≡ o → Bytes bs → (f : List ℕ → Found)
     → ((s : ℕ) → o ≡ Some s → (f (drop s bs)).broken ≡ None → Whole (drop s bs) (f (drop s bs)).commands)
     → (found_from o i bs f).broken ≡ None → Whole bs (found_from o i bs f).commands
-entries_step i bs None q b f next e = absurd (none_some (sym e))
+entries_step i bs None q b f next e = absurd (cc)
 entries_step i bs (Some s) q b f next e =
     let r = rewritten bs s b q in
     let w = next s refl e in
@@ -155,7 +155,7 @@ entries_scan : (k i : ℕ) (bs : List ℕ) → length bs ≤ k → Bytes bs → 
     → Whole bs (scan k i bs).commands
 unfolding scan
 entries_scan k i [] h b e = record { bytes = refl; formed = All-nil (λ d. well_formed d ≡ true); sized = All-nil Sized }
-entries_scan zero i (x ∷ bs) h b e = absurd (none_some (sym e))
+entries_scan zero i (x ∷ bs) h b e = absurd (cc)
 entries_scan (suc k) i (x ∷ bs) h b e =
     entries_step i (x ∷ bs) (size_of (x ∷ bs)) refl b (scan k i)
     (λ s q none.

@@ -1,7 +1,7 @@
 -- With space for the longest entries, only their number can be refused.
-use Rattle.std.proofs.Common.{◌≡◌, ℕ, suc, ◌+◌, ◌*◌, ◌≤◌, true, cond, ltb, leb, List, [], ◌∷◌, length, Some, None, Option, sym, refl, ap, ◌∙◌, inl, inr, arith}
+use Rattle.std.proofs.Common.{◌≡◌, ℕ, suc, ◌+◌, ◌*◌, ◌≤◌, true, cond, leb, List, [], ◌∷◌, length, Some, None, Option, sym, refl, ap, ◌∙◌, inl, inr, arith}
 use Rattle.std.specs.List.{AllPass}
-use Rattle.std.proofs.lemmas.Bool.{le-leb, lt-leb, le-ltb, cases_lt, cond-true, cond-false}
+use Rattle.std.proofs.lemmas.Bool.{le-leb, lt-leb, cases_lt, cond-true, cond-false}
 use Rattle.std.proofs.lemmas.List.Elements.{All-head, All-tail}
 use Rattle.octets.specs.Areas.{over}
 use Rattle.octets.proofs.Areas.{length_over}
@@ -10,12 +10,12 @@ use Rattle.command.specs.declared.verbs.Verb.{Verb}
 use Rattle.command.specs.declared.verbs.Verb.TheVariants.{Noop, Add, Remove, Change}
 use Rattle.command.specs.Commands.{verb_of, well_formed, serial_bytes}
 use Rattle.archive.specs.declared.writing.OpenArchive.{OpenArchive}
-use Rattle.archive.specs.declared.writing.Refusal.TheVariants.{IllFormed, Full}
+use Rattle.archive.specs.declared.writing.Refusal.TheVariants.{Full}
 use Rattle.archive.specs.declared.lists.ListRefusal.TheVariants.{Begin, Entry}
 use Rattle.archive.specs.Layout.{header, entry, entry_as, most}
 use Rattle.archive.specs.Lists.{adds_refusal, EnoughSpace}
 use Rattle.archive.specs.Writing.{begin_refusal, begun, add_refusal, grown}
-use Rattle.archive.proofs.Calls.{begin_taken, add_taken}
+use Rattle.archive.proofs.Calls.{begin_taken, add_taken, add_full}
 use Rattle.archive.proofs.WholeLists.{or_later, or_refused}
 
 -- no entry is longer than a change
@@ -25,12 +25,6 @@ entry_short (Some Noop) c = omega arith
 entry_short (Some Add) c = omega arith
 entry_short (Some Remove) c = omega arith
 entry_short (Some Change) c = omega arith
-
-add_full : (area : List ℕ) (o : OpenArchive) (c : Command) → well_formed c ≡ true → most ≤ o.count
-    → add_refusal area o c ≡ Some Full
-add_full area o c w l =
-    cond-true (well_formed c) _ (Some IllFormed) w
-    ∙ cond-false (ltb o.count most) _ (Some Full) (le-ltb o.count most l)
 
 adds : (cs : List Command) (area : List ℕ) (o : OpenArchive) → AllPass well_formed cs → o.count ≤ most
     → o.at + length cs * (7 + serial_bytes) + 2 ≤ length area

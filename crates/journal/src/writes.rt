@@ -24,14 +24,17 @@ impl Entry {
 /// A write of a journal.
 #[derive(Clone, Copy, PartialEq, Eq, Debug)]
 pub enum Write {
+    /// A ballot is promised.
     Promise {
         ballot: u32,
     },
+    /// A command is put into a slot of the window, with the promised ballot.
     Put {
         slot: u32,
         ballot: u32,
         command: Command,
     },
+    /// A command is settled in the next slot.
     Settle {
         command: Command,
     },

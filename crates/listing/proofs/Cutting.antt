@@ -1,9 +1,11 @@
 -- Cutting bytes at the first mark gives their first piece, and the rest gives the others.
-use Rattle.std.proofs.Common.{◌≡◌, ℕ, get_or, ◌+◌, ◌-◌, ◌<◌, ◌≤◌, false, eqb, ltb, List, [], ◌∷◌, ◌++◌, length, take, drop, Some, None, Option, sym, refl, ap, ◌∙◌, ⊎_elim, arith}
+use Rattle.std.proofs.Common.{◌≡◌, ◌≢◌, MatchOption, ℕ, get_or, ◌+◌, ◌-◌, ◌<◌, ◌≤◌, false, eqb, ltb, List, [], ◌∷◌, ◌++◌, length, take, drop, Some, None, Option, sym, refl, ap, ◌∙◌, ⊎_elim, arith}
 use Rattle.std.specs.List.{position, position_or_len, onto_first}
 use Rattle.std.proofs.lemmas.List.Splits.{slice_split_first}
 use Rattle.std.proofs.lemmas.Bool.{cases_Bool, ltb-true, ltb-false, ne_eqb}
 use Rattle.std.proofs.lemmas.List.{take_rest, take_more, take_all}
+use Rattle.std.specs.Borrow.{Bor}
+use Rattle.std.specs.Option.{unwrap_or}
 use Rattle.listing.specs.Pieces.{lines, pieces}
 
 -- the first mark is at place k, or there is none
@@ -28,6 +30,10 @@ piece_none m bs e =
     (λ t. one_piece m bs (ltb-false _ _ t)) (cases_Bool (ltb p (length bs)))
 
 -- the lines of a text are the pieces of it without its last end
+pub lines_none : (bs : List ℕ) → length bs < 1 → lines bs ≡ []
+lines_none [] h = refl
+lines_none (b ∷ bs) h = absurd (omega arith)
+
 lines_ended : (bs : List ℕ) → lines (bs ++ 10 ∷ []) ≡ pieces 10 bs
 lines_ended [] = refl
 lines_ended (b ∷ bs) = rw (lines_ended bs) refl
@@ -42,20 +48,15 @@ front_last bs h =
     let k : length bs - 1 + 1 ≡ length bs = omega arith in
     sym (take_all (length bs - 1 + 1) bs (omega arith)) ∙ take_more bs (length bs - 1) 0 (omega arith)
 
-pub lines_none : (bs : List ℕ) → length bs < 1 → lines bs ≡ []
-lines_none [] h = refl
-lines_none (b ∷ bs) h = absurd (omega arith)
-
-pub lines_cut : (bs : List ℕ) → 1 ≤ length bs → get_or bs (length bs - 1) 0 ≡ 10 →
-    lines bs ≡ pieces 10 (take (length bs - 1) bs)
-lines_cut bs h e =
-    let f = take (length bs - 1) bs in
-    ap lines (front_last bs h ∙ ap (λ b. f ++ b ∷ []) e) ∙ lines_ended f
-
-pub lines_whole : (bs : List ℕ) → 1 ≤ length bs → (get_or bs (length bs - 1) 0 ≡ 10 → ⊥) → lines bs ≡ pieces 10 bs
-lines_whole bs h e =
-    let s = front_last bs h in
-    ap lines s ∙ lines_open (take (length bs - 1) bs) _ (ne_eqb _ _ e) ∙ ap (pieces 10) (sym s)
+pub lines_stripped : (text : Bor (List ℕ)) (r : Option (Bor (List ℕ))) → 1 ≤ length text.now →
+    MatchOption r ((front : List ℕ) → text.now ≢ front ++ 10 ∷ []) (λ x. text.now ≡ x.now ++ 10 ∷ []) →
+    lines text.now ≡ pieces 10 (unwrap_or r text).now
+lines_stripped text (Some x) h e = ap lines e ∙ lines_ended x.now
+lines_stripped text None h n =
+    let k = length text.now - 1 in
+    let s = front_last text.now h in
+    ap lines s ∙ lines_open (take k text.now) _ (ne_eqb _ _ (λ e. n (take k text.now)
+    (s ∙ ap (λ b. take k text.now ++ b ∷ []) e))) ∙ ap (pieces 10) (sym s)
 
 -- a text has no more lines than bytes
 length_onto_first : (c : ℕ) (ps : List (List ℕ)) → length (onto_first c ps) ≤ length ps + 1

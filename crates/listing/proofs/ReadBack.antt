@@ -1,5 +1,5 @@
 -- A list that was written is read back.
-use Rattle.std.proofs.Common.{◌≡◌, ℕ, ◌+◌, ◌≤◌, true, ◌&&◌, eqb, leb, List, [], ◌∷◌, ◌++◌, map, length, Some, None, Option, Ok, codes, sym, refl, ap, ◌∙◌, append_assoc, arith}
+use Rattle.std.proofs.Common.{◌≡◌, ℕ, ◌+◌, ◌≤◌, true, ◌&&◌, eqb, leb, List, [], ◌∷◌, ◌++◌, map, length, Some, None, Ok, Err, cond, Option, Result, codes, sym, refl, ap, ◌∙◌, append_assoc, arith}
 use Rattle.std.specs.List.{All}
 use Rattle.std.proofs.lemmas.List.Elements.{All-head, All-tail}
 use Rattle.std.proofs.lemmas.Bool.Decides.{nat_tests}
@@ -15,9 +15,13 @@ use Rattle.listing.specs.Reading.{max8, max16, max_serial, then, command, ended,
 use Rattle.listing.specs.Reading.{directors, some_directors, chain_of, read_chain, before, entries_from}
 use Rattle.listing.specs.Reading.{listed, chained, read_lines, read_text}
 use Rattle.listing.specs.Writing.{spaced, chain_line, line_for, line_of, ending, entries_text, text_of}
-use Rattle.listing.specs.Law.{Listable}
+use Rattle.listing.specs.Law.{Listable, ReadsBack}
 use Rattle.listing.proofs.Back.{lacks, lacks_append, lines_first, numeral_back, Small, words_back, spaced_lacks}
 use Rattle.listing.proofs.Whole.{director_first}
+use Rattle.listing.specs.Answers.{Tells, list_of, spent}
+use Rattle.listing.specs.declared.faults.Fault.{Fault}
+use Rattle.listing.specs.declared.faults.Fault.TheVariants.{Memory}
+use Rattle.listing.specs.declared.lists.YearList.{YearList}
 
 -- a line of one word, of a word and a director, and of a change
 noop_back : read_entry (codes "noop") ≡ Some (command 0 0 0 0 0)
@@ -71,11 +75,11 @@ line_lacks : (w ns : List ℕ) → lacks 10 w ≡ true → Small ns → lacks 10
 line_lacks w ns h s = lacks_append 10 w (spaced ns) h (spaced_lacks ns s)
 
 -- the line of a command is one line, and tells the command
-pub record Tells (l : List ℕ) (c : Command) : Type 0 where
+pub record IsLineOf (l : List ℕ) (c : Command) : Type 0 where
   pub one : lacks 10 l ≡ true
   pub read : read_entry l ≡ Some c
 
-told : (c : Command) → Sized c → (k : Option Verb) → verb_of c.verb ≡ k → fits k c ≡ true → Tells (line_for k c) c
+told : (c : Command) → Sized c → (k : Option Verb) → verb_of c.verb ≡ k → fits k c ≡ true → IsLineOf (line_for k c) c
 told c z None e h = absurd (false≢true h)
 told c z (Some Noop) e h =
     let p = and_parts (untold c) (eqb c.a 0) h in
@@ -101,7 +105,7 @@ told c z (Some Change) e h = record {
   read = change_back c.verb c.origin c.serial c.a c.b (omega arith) (omega arith) (omega arith) (omega arith) (omega arith);
 }
 
-entry_told : (c : Command) → Listable c → Tells (line_of c) c
+entry_told : (c : Command) → Listable c → IsLineOf (line_of c) c
 entry_told c h = told c h.sized (verb_of c.verb) refl h.well
 
 -- the chain
@@ -147,3 +151,7 @@ text_back ms cs v h =
     ap read_lines (lines_back (chain_line ms) (entries_text cs) (chain_lacks ms p.1)) ∙
     ap (λ x. chained x (lines (entries_text cs))) (chain_back ms (leb-true _ _ q.0) p.1) ∙
     cond-true (valid_chain ms) _ _ v ∙ ap (listed (founded ms)) (entries_back 2 cs h)
+
+pub read_back : (text : List ℕ) (r : Result YearList Fault) → Tells list_of r (read_text text) → ReadsBack text r
+read_back text r h ms cs v l e =
+    h ∙ ap (λ x. cond (spent r) (Err Memory) x) (ap read_text e ∙ text_back ms cs v l)

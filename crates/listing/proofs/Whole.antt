@@ -164,6 +164,22 @@ chain_told_is (Some ms) bs r p q =
     different : (ms : List ℕ) → valid_chain ms ≡ true → different_directors ms ≡ true
     different ms h = (and_parts (leb 1 (length ms) && leb (length ms) 7) (different_directors ms) h).1
 
+-- a fault is passed on, and want of memory excuses all
+pass : {A B : Type 0} (f : Fault) (p : Result A Fault) (q : Result B Fault) → ((f : Fault) → Err f ≡ p → Err f ≡ q) →
+    Err f ≡ cond (is_memory f) (Err Memory) p → Err f ≡ cond (is_memory f) (Err Memory) q
+pass InvalidChain p q k e = k InvalidChain e
+pass (IllFormed n) p q k e = k (IllFormed n) e
+pass (Unreadable n) p q k e = k (Unreadable n) e
+pass Memory p q k e = refl
+
+members_err : (o : Option (List ℕ)) (f : Fault) → Err f ≡ members_told o → Err f ≡ chain_told o
+members_err None f e = cc
+members_err (Some ms) f e = cc
+
+pub members_fault : (o : Option (List ℕ)) (f : Fault) → Err f ≡ cond (is_memory f) (Err Memory) (members_told o) →
+    Err f ≡ cond (is_memory f) (Err Memory) (chain_told o)
+members_fault o f e = pass f _ _ (members_err o) e
+
 -- the whole text: no line, a first line at fault, a later line at fault, and a list
 pub text_none : (text : List ℕ) (all : List (List ℕ)) → all ≡ lines text → all ≡ [] → read_text text ≡ Err (Unreadable 1)
 unfolding read_text
@@ -173,14 +189,6 @@ pub text_from : (text l : List ℕ) (all ls : List (List ℕ)) → all ≡ lines
     read_text text ≡ chained (read_chain l) ls
 unfolding read_text
 text_from text l all ls p q = ap read_lines (sym p ∙ q)
-
--- a fault is passed on, and want of memory excuses all
-pass : {A B : Type 0} (f : Fault) (p : Result A Fault) (q : Result B Fault) → ((f : Fault) → Err f ≡ p → Err f ≡ q) →
-    Err f ≡ cond (is_memory f) (Err Memory) p → Err f ≡ cond (is_memory f) (Err Memory) q
-pass InvalidChain p q k e = k InvalidChain e
-pass (IllFormed n) p q k e = k (IllFormed n) e
-pass (Unreadable n) p q k e = k (Unreadable n) e
-pass Memory p q k e = refl
 
 chained_err : (o : Option (List ℕ)) (ls : List (List ℕ)) (f : Fault) → Err f ≡ chain_told o → Err f ≡ chained o ls
 chained_err None ls f e = cc

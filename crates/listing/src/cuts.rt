@@ -31,8 +31,7 @@ impl<'a> Pieces<'a> {
     {
         let rest = match text {
             [] => None,
-            [body @ .., b'\n'] => Some(body),
-            body => Some(body),
+            _ => Some(text.strip_suffix(b"\n").unwrap_or(text)),
         };
         Pieces { rest, mark: b'\n' }
     }
@@ -56,17 +55,11 @@ impl<'a> Iterator for Pieces<'a> {
     ghost remaining = { item_count (λ ps. ps) };
 
     fn next(&mut self) -> Option<&'a [u8]> {
-        let rest = self.rest?;
-        let mark = self.mark;
-        match rest.iter().position(|b| *b == mark) {
-            Some(end) => {
-                self.rest = Some(&rest[end + 1..]);
-                Some(&rest[..end])
-            }
-            None => {
-                self.rest = None;
-                Some(rest)
-            }
-        }
+        let rest = self.rest.take()?;
+        let Some(end) = rest.iter().position(|b| *b == self.mark) else {
+            return Some(rest);
+        };
+        self.rest = Some(&rest[end + 1..]);
+        Some(&rest[..end])
     }
 }

@@ -24,13 +24,6 @@ pub fn read_list(heap: Global, text: &[u8]) -> Result<YearList, Fault>
     ensures answer { Tells list_of result (read_text text.now) }
     ensures back { ReadsBack text.now result }
 {
-    read_text(heap, text)
-}
-
-// The list that a text tells.
-fn read_text(heap: Global, text: &[u8]) -> Result<YearList, Fault>
-    ensures { Tells list_of result (read_text text.now) }
-{
     let mut lines = Pieces::lines(text);
     let first = lines.next().ok_or(Fault::Unreadable { line: 1 })?;
     let chain = read_chain(heap, first)?;
@@ -42,19 +35,12 @@ fn read_text(heap: Global, text: &[u8]) -> Result<YearList, Fault>
 fn read_chain(heap: Global, line: &[u8]) -> Result<Chain, Fault>
     ensures { Tells (λ chain. chain) result (chain_told (read_chain line.now)) }
 {
-    let members = read_members(heap, line)?;
-    Ok(Chain::new(members.as_slice())?)
-}
-
-// The directors of the first line, a byte for each.
-fn read_members(heap: Global, line: &[u8]) -> Result<Vec<u8>, Fault>
-    ensures { Tells vec_items result (members_told (read_chain line.now)) }
-{
     let mut words = Pieces::words(line);
     if words.next() != Some(b"chain".as_slice()) {
         return Err(Fault::Unreadable { line: 1 });
     }
-    read_directors(heap, words)
+    let members = read_directors(heap, words)?;
+    Ok(Chain::new(&members)?)
 }
 
 // The directors after the first line's first word. A number above a byte is no director's, and neither is the

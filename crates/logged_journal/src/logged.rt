@@ -48,17 +48,6 @@ impl<J: Journal> LoggedJournal<J> {
         self.log.complete
     }
 
-    // Makes a write below, and keeps it if it was taken there.
-    fn write(&mut self, write: Write) -> bool
-        ensures { Writes (λ j. J.Journal.meaning j.lower) log_behind write self.old self.new result }
-    {
-        let taken = make_write(&mut self.lower, &write);
-        if taken {
-            self.log.keep(write);
-        }
-        taken
-    }
-
     /// The journal below.
     pub fn lower(&self) -> &J
         ensures { result.now ≡ self.now.lower }
@@ -72,6 +61,17 @@ impl<J: Journal> LoggedJournal<J> {
     {
         let LoggedJournal { lower, log: _ } = self;
         lower
+    }
+
+    // Makes a write below, and keeps it if it was taken there.
+    fn write(&mut self, write: Write) -> bool
+        ensures { Writes (λ j. J.Journal.meaning j.lower) log_behind write self.old self.new result }
+    {
+        let taken = make_write(&mut self.lower, &write);
+        if taken {
+            self.log.keep(write);
+        }
+        taken
     }
 }
 

@@ -1,5 +1,5 @@
 -- The machine's state follows the settled list.
-use Rattle.std.proofs.Common.{◌≡◌, ℕ, leb, List, [], ◌∷◌, ◌++◌, fold, sym, refl, ap, ◌∙◌, append_assoc, append-nil}
+use Rattle.std.proofs.Common.{◌≡◌, ℕ, leb, List, [], ◌∷◌, ◌++◌, Option, None, fold, sym, refl, ap, ◌∙◌, append_assoc, append-nil}
 use Rattle.std.proofs.lemmas.List.Elements.{filter-append}
 use Rattle.command.specs.declared.Command.{Command}
 use Rattle.command.specs.Members.{Membership}
@@ -9,26 +9,25 @@ use Rattle.journal.specs.Meaning.{Meaning, after, replay}
 use Rattle.journal.proofs.Histories.{step_taken}
 use Rattle.machine.specs.Rules.{Rule, after as ranAfter}
 use Rattle.machine.proofs.Runs.{after_append}
-use Rattle.protocol.specs.Replies.{for_machine, ran, settled_in}
+use Rattle.protocol.specs.Replies.{for_machine, Ran, ran_one, ran, settled_in}
 use Rattle.protocol.proofs.Votes.{Past}
 use Rattle.protocol.proofs.Growing.{plus_one}
 use Rattle.protocol.proofs.Going.{Throughout}
 
-folded_state : (rule : Rule) (now : List ℕ × ℕ) (cs : List Command)
-    → (fold (λ (x : List ℕ × ℕ) (c : Command). rule x.0 c) now cs).0 ≡ ranAfter rule now.0 cs
+folded_state : (rule : Rule) (now : Ran) (cs : List Command) → (fold (ran_one rule) now cs).0 ≡ ranAfter rule now.0 cs
 folded_state rule now [] = refl
-folded_state rule now (c ∷ cs) = folded_state rule (rule now.0 c) cs
+folded_state rule now (c ∷ cs) = folded_state rule (ran_one rule now c) cs
 
-pub ran_state : (rule : Rule) (s : List ℕ) (a : ℕ) (cs : List Command)
+pub ran_state : (rule : Rule) (s : List ℕ) (a : Option ℕ) (cs : List Command)
     → (ran rule (s, a) cs).0 ≡ ranAfter rule s (for_machine cs)
 unfolding ran
 ran_state rule s a cs = folded_state rule (s, a) (for_machine cs)
 
 -- a state that a list leads to, and more commands
 pub ran_more : (rule : Rule) (start s : List ℕ) (cs es : List Command) → s ≡ ranAfter rule start (for_machine cs)
-    → (ran rule (s, 0) es).0 ≡ ranAfter rule start (for_machine (cs ++ es))
+    → (ran rule (s, None) es).0 ≡ ranAfter rule start (for_machine (cs ++ es))
 ran_more rule start s cs es is =
-    ran_state rule s 0 es ∙ ap (λ (t : List ℕ). ranAfter rule t (for_machine es)) is
+    ran_state rule s None es ∙ ap (λ (t : List ℕ). ranAfter rule t (for_machine es)) is
     ∙ sym (after_append rule start (for_machine cs) (for_machine es))
     ∙ ap (ranAfter rule start) (sym (filter-append (λ c. leb 16 c.verb) cs es))
 

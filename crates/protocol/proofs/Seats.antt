@@ -100,14 +100,14 @@ module _ (k : Cluster) (es : List Event) (w : World) (i : Inv k es w) (d : ℕ) 
     machine_is = go (is_restart call) refl
       where
         go : (t : Bool) → is_restart call ≡ t
-            → (cond t (ran k.make.rule (k.make.start, 0) (settled_list w d))
-            (ran k.make.rule ((w.seats d).machine, 0) (settled_in o.writes))).0
+            → (cond t (ran k.make.rule (k.make.start, None) (settled_list w d))
+            (ran k.make.rule ((w.seats d).machine, None) (settled_in o.writes))).0
             ≡ after k.make.rule k.make.start (for_machine (journal_of seat).settled)
         go true h =
             let none : o.writes ≡ [] =
             ap (λ (p : Outcome). p.writes) (sym (accepted_is call places (desk_of (w.seats d)) o e).is)
             ∙ restart_writes call (desk_of (w.seats d)) h in
-            ran_state k.make.rule k.make.start 0 (settled_list w d)
+            ran_state k.make.rule k.make.start None (settled_list w d)
             ∙ ap (λ (cs : List Command). after k.make.rule k.make.start (for_machine cs))
             (sym (settled_is ∙ ap (λ (ws : List Write). settled_list w d ++ settled_in ws) none
             ∙ append-nil (settled_list w d)))

@@ -35,10 +35,10 @@ impl Acknowledged {
 }
 
 /// What an accepted call answers: how many messages it wrote to the table, how many slots are settled now, and the
-/// machine's last answer in this call, or 0.
+/// machine's last answer in this call, if it gave one.
 #[derive(Clone, Copy, PartialEq, Eq, Debug)]
 pub struct Reply {
     pub messages: usize,
     pub settled: u32,
-    pub answer: u16,
+    pub answer: Option<u16>,
 }

@@ -8,6 +8,7 @@ use Rattle.journal.specs.declared.writes.Write.{Write}
 use Rattle.machine.specs.Rules.{Rule}
 use Rattle.protocol.specs.declared.messages.Acknowledged.{Acknowledged}
 use Rattle.protocol.specs.Desks.{Desk, settled_by, ack_of}
+use Rattle.protocol.specs.Replies.{Ran}
 use Rattle.protocol.specs.Rings.{chain_of, open_at}
 use Rattle.protocol.specs.Settling.{backed, settle, settle_open}
 use Rattle.steps.specs.Doing.{Did}
@@ -40,7 +41,7 @@ module _ (d : Desk) (n : ℕ) (e : Entry) (a : Acknowledged) (next : n ≡ settl
       (sym ballots ∙ eq-eqb e.ballot a.ballot same))
 
 -- what is open in the next slot was settled
-pub did_open : (rule : Rule) (d k : Desk) (e : Entry) (n : ℕ) (B C : List Write → Type 0) (u v : List ℕ × ℕ)
+pub did_open : (rule : Rule) (d k : Desk) (e : Entry) (n : ℕ) (B C : List Write → Type 0) (u v : Ran)
     → n ≡ settled_by d → e ≡ open_at d (n + 1) → Did rule d (settle e.command d) k B C u v
     → Did rule d (settle_open d) k B C u v
 unfolding settle_open

@@ -1,16 +1,17 @@
 -- The chains of the window, one settled command on.
-use Rattle.std.proofs.Common.{◌≡◌, ℕ, ◌+◌, ◌-◌, ◌%◌, ◌≤◌, true, false, List, [], ◌∷◌, ◌++◌, length, get_or, set, sym, refl, ap, ◌∙◌, subst, inl, inr, arith}
+use Rattle.std.proofs.Common.{◌≡◌, ℕ, ◌+◌, ◌-◌, ◌≤◌, true, false, List, [], ◌∷◌, ◌++◌, length, sym, refl, ap, ◌∙◌, subst, inl, inr, arith}
 use Rattle.std.proofs.lemmas.List.{length-append, take-append-le, take_all}
 use Rattle.std.proofs.lemmas.Bool.{cases_lt}
 use Rattle.command.specs.declared.Command.{Command}
 use Rattle.command.specs.Chains.{after, after_all, chain_for}
 use Rattle.command.specs.Members.{Membership}
+use Rattle.journal.specs.Windows.{put_at}
 use Rattle.journal.specs.declared.writes.Write.TheVariants.{Settle}
 use Rattle.journal.specs.Meaning.{Meaning, taken, step, after as written}
 use Rattle.journal.proofs.Histories.{step_taken, step_untaken}
 use Rattle.protocol.proofs.Places.{placed_other, placed_next}
 use Rattle.steps.specs.declared.chains.Chains.{Chains}
-use Rattle.steps.specs.Chains.{Tells}
+use Rattle.steps.specs.Chains.{Tells, Told}
 
 after_push : (f : Membership) (cs : List Command) (c : Command)
     → after_all f (cs ++ (c ∷ [])) ≡ after (after_all f cs) c
@@ -29,23 +30,18 @@ new_chain f cs c n h =
     let l = length-append cs (c ∷ []) in
     sym (ap (after_all f) (take_all (n - 8) (cs ++ (c ∷ [])) (omega arith)) ∙ after_push f cs c)
 
-last_chain : (f : Membership) (cs : List Command) → chain_for f cs (length cs + 8) ≡ after_all f cs
-last_chain f cs = ap (after_all f) (take_all (length cs + 8 - 8) cs (omega arith))
-
--- place i is that of the last slot, place j that of the next one
-pub tells_more : (f : Membership) (cs : List Command) (c : Command) (places : List Membership) (p i j : ℕ)
-    (last next : Membership) → length places ≡ 8 → i ≡ p % 8 → j ≡ (p + 1) % 8
-    → Tells f cs (record { places = places; settled = p })
-    → last ≡ get_or places i last → next ≡ after last c
-    → Tells f (cs ++ (c ∷ [])) (record { places = set places j next; settled = p + 1 })
-tells_more f cs c places p i j last next eight low high tells read is =
+-- where ps are the places with the chain of the slot that comes into range
+pub tells_more : (f : Membership) (cs : List Command) (c : Command) (places ps : List Membership) (p : ℕ)
+    (last next : Membership) → length places ≡ 8 → Tells f cs (record { places = places; settled = p })
+    → Told (record { places = places; settled = p }) (p + 8) last → next ≡ after last c
+    → ps ≡ put_at places (p + 1) next → Tells f (cs ++ (c ∷ [])) (record { places = ps; settled = p + 1 })
+tells_more f cs c places ps p last next eight tells told is put =
     let count = tells.count in
     let l = length-append cs (c ∷ []) in
-    let place : i ≡ (length cs + 8) % 8 = omega arith in
     let before : last ≡ after_all f cs =
-    read ∙ ap (λ (k : ℕ). get_or places k last) place
-    ∙ tells.each (length cs + 8) last (omega arith) (omega arith) ∙ last_chain f cs in
-    subst (λ (k : ℕ). Tells f (cs ++ (c ∷ [])) (record { places = set places k next; settled = p + 1 })) (sym high)
+    told f cs tells (omega arith) (omega arith)
+    ∙ ap (after_all f) (take_all (p + 8 - 8) cs (omega arith)) in
+    subst (λ (qs : List Membership). Tells f (cs ++ (c ∷ [])) (record { places = qs; settled = p + 1 })) (sym put)
     (record {
       count = omega arith;
       each = λ n other above near.

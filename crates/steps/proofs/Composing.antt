@@ -10,7 +10,7 @@ use Rattle.journal.proofs.Histories.{step_taken}
 use Rattle.machine.specs.Rules.{Rule}
 use Rattle.protocol.specs.declared.messages.Message.{Message}
 use Rattle.protocol.specs.Desks.{State, Desk, Outcome, Step, left, both, go_on, write, become, forget, ◌▸◌}
-use Rattle.protocol.specs.Replies.{ran, settled_in}
+use Rattle.protocol.specs.Replies.{ran, settled_in, Ran}
 use Rattle.protocol.specs.Settling.{settle}
 use Rattle.protocol.proofs.Growing.{replay_append}
 use Rattle.steps.specs.Doing.{Did}
@@ -35,7 +35,7 @@ wrote_untaken w m e = ap (λ b. cond b (w ∷ []) []) e
 
 -- One step after another.
 
-module _ (rule : Rule) (d e k : Desk) (o p : Outcome) (B C D : List Write → Type 0) (u v w : List ℕ × ℕ) where
+module _ (rule : Rule) (d e k : Desk) (o p : Outcome) (B C D : List Write → Type 0) (u v w : Ran) where
   pub did_both : Did rule d o e B C u v → Did rule e p k C D v w → Did rule d (both o p) k B D u w
   unfolding both left
   did_both first second =
@@ -48,13 +48,13 @@ module _ (rule : Rule) (d e k : Desk) (o p : Outcome) (B C D : List Write → Ty
             subst D (append_assoc ws o.writes p.writes) (second.history (ws ++ o.writes) (first.history ws b));
         machine =
             second.machine
-            ∙ ap (λ (x : List ℕ × ℕ). ran rule x (settled_in p.writes)) first.machine
+            ∙ ap (λ (x : Ran). ran rule x (settled_in p.writes)) first.machine
             ∙ sym (ran_append rule u (settled_in o.writes) (settled_in p.writes))
             ∙ ap (ran rule u) (sym (settled_append o.writes p.writes));
       }
 
 -- a step, then the next one at the desk that the first left
-pub did_then : (rule : Rule) (d e k : Desk) (first next : Step) (B C D : List Write → Type 0) (u v w : List ℕ × ℕ)
+pub did_then : (rule : Rule) (d e k : Desk) (first next : Step) (B C D : List Write → Type 0) (u v w : Ran)
     → Did rule d (first d) e B C u v → Did rule e (next e) k C D v w → Did rule d ((first ▸ next) d) k B D u w
 unfolding go_on
 did_then rule d e k first next B C D u v w one two =
@@ -63,7 +63,7 @@ did_then rule d e k first next B C D u v w one two =
     (subst (λ (x : Desk). Did rule x (next x) k C D v w) one.desk two)
 
 -- a step that writes nothing
-pub did_still : (rule : Rule) (d : Desk) (s : State) (ms : List Message) (B : List Write → Type 0) (u : List ℕ × ℕ)
+pub did_still : (rule : Rule) (d : Desk) (s : State) (ms : List Message) (B : List Write → Type 0) (u : Ran)
     → Did rule d (record { state = s; writes = []; messages = ms }) (record { state = s; journal = d.journal }) B B u u
 unfolding left ran
 did_still rule d s ms B u =
@@ -73,7 +73,7 @@ did_still rule d s ms B u =
 module _ (rule : Rule) (m n : Meaning) (s t : State) (c : Command) (k : ℕ) (B C : List Write → Type 0)
     (count : k ≡ settled_count m) (journal : n ≡ step (Settle c) m)
     (history : (ws : List Write) → B ws → C (ws ++ wrote (Settle c) m)) (state : t ≡ forget (k + 1) s) where
-  settled : (u v : List ℕ × ℕ) (ws : List Write) → wrote (Settle c) m ≡ ws → v ≡ ran rule u (settled_in ws)
+  settled : (u v : Ran) (ws : List Write) → wrote (Settle c) m ≡ ws → v ≡ ran rule u (settled_in ws)
       → Did rule (record { state = s; journal = m }) (settle c (record { state = s; journal = m }))
       (record { state = t; journal = n }) B C u v
   unfolding settle go_on left both write become
@@ -88,13 +88,13 @@ module _ (rule : Rule) (m n : Meaning) (s t : State) (c : Command) (k : ℕ) (B 
       }
 
   -- where the settle was taken
-  pub settle_taken : (u v : List ℕ × ℕ) → taken (Settle c) m ≡ true → v ≡ ran rule u (c ∷ [])
+  pub settle_taken : (u v : Ran) → taken (Settle c) m ≡ true → v ≡ ran rule u (c ∷ [])
       → Did rule (record { state = s; journal = m }) (settle c (record { state = s; journal = m }))
       (record { state = t; journal = n }) B C u v
   settle_taken u v is = settled u v (Settle c ∷ []) (wrote_taken (Settle c) m is)
 
   -- and where it was not
-  pub settle_untaken : (u : List ℕ × ℕ) → taken (Settle c) m ≡ false
+  pub settle_untaken : (u : Ran) → taken (Settle c) m ≡ false
       → Did rule (record { state = s; journal = m }) (settle c (record { state = s; journal = m }))
       (record { state = t; journal = n }) B C u u
   unfolding ran

@@ -4,7 +4,7 @@ use Rattle.std.proofs.lemmas.List.Sums.{count_by-le-length}
 use Rattle.journal.specs.declared.writes.Write.{Write}
 use Rattle.machine.specs.Rules.{Rule}
 use Rattle.protocol.specs.Desks.{Desk, Outcome, Step, left, both, go_on, quiet, repeat, ◌▸◌}
-use Rattle.protocol.specs.Replies.{ran}
+use Rattle.protocol.specs.Replies.{ran, Ran}
 use Rattle.protocol.specs.Settling.{advance, backed, settle_open}
 use Rattle.protocol.proofs.Turns.{some, advance_falls}
 use Rattle.steps.specs.Doing.{Did}
@@ -27,14 +27,14 @@ pub record Going
     (rest : Step)
     (now : Desk)
     (B C : List Write → Type 0)
-    (u v : List ℕ × ℕ)
+    (u v : Ran)
     : Type 0 where
   pub done : Outcome
   pub did : Did rule d done now B C u v
   pub all : both done (rest now) ≡ whole
 
 -- nothing is done yet
-pub going_start : (rule : Rule) (d : Desk) (rest : Step) (B : List Write → Type 0) (u : List ℕ × ℕ)
+pub going_start : (rule : Rule) (d : Desk) (rest : Step) (B : List Write → Type 0) (u : Ran)
     → Going rule d (rest d) rest d B B u u
 unfolding both left ran
 going_start rule d rest B u =
@@ -44,7 +44,7 @@ going_start rule d rest B u =
       all = refl;
     }
 
-module _ (rule : Rule) (d : Desk) (whole : Outcome) (now : Desk) (B C : List Write → Type 0) (u v : List ℕ × ℕ) where
+module _ (rule : Rule) (d : Desk) (whole : Outcome) (now : Desk) (B C : List Write → Type 0) (u v : Ran) where
   -- nothing is left
   pub going_end : (rest : Step) → rest now ≡ quiet now → Going rule d whole rest now B C u v
       → Did rule d whole now B C u v
@@ -54,7 +54,7 @@ module _ (rule : Rule) (d : Desk) (whole : Outcome) (now : Desk) (B C : List Wri
       (did_both rule d now now g.done (quiet now) B C C u v v g.did (did_still rule now now.state [] C v))
 
   -- the test of a repeated step holds, and one turn was taken
-  pub going_on : (test : Desk → Bool) (turn : Step) (k : ℕ) (next : Desk) (D : List Write → Type 0) (w : List ℕ × ℕ)
+  pub going_on : (test : Desk → Bool) (turn : Step) (k : ℕ) (next : Desk) (D : List Write → Type 0) (w : Ran)
       → test now ≡ true → Going rule d whole (repeat test turn (suc k)) now B C u v
       → Did rule now (turn now) next C D v w → Going rule d whole (repeat test turn k) next B D u w
   unfolding repeat go_on
@@ -77,12 +77,12 @@ repeat_stops test turn zero d e = refl
 repeat_stops test turn (suc k) d e = ap (λ (t : Bool). cond t (turn ▸ repeat test turn k) quiet d) e
 
 -- Advancing from desk d: so many turns are left at most, as many as there are slots of which something is known.
-pub record Advancing (rule : Rule) (d now : Desk) (B C : List Write → Type 0) (u v : List ℕ × ℕ) : Type 0 where
+pub record Advancing (rule : Rule) (d now : Desk) (B C : List Write → Type 0) (u v : Ran) : Type 0 where
   pub turns : ℕ
   pub going : Going rule d (advance d) (repeat backed settle_open turns) now B C u v
   pub enough : count_by some now.state.acks ≤ turns
 
-pub advancing_start : (rule : Rule) (d : Desk) (B : List Write → Type 0) (u : List ℕ × ℕ) → length d.state.acks ≡ 8
+pub advancing_start : (rule : Rule) (d : Desk) (B : List Write → Type 0) (u : Ran) → length d.state.acks ≡ 8
     → Advancing rule d d B B u u
 unfolding advance
 advancing_start rule d B u eight =
@@ -92,9 +92,9 @@ advancing_start rule d B u eight =
       enough = let l = count_by-le-length some d.state.acks in omega arith;
     }
 
-module _ (rule : Rule) (d now : Desk) (B C : List Write → Type 0) (u v : List ℕ × ℕ)
+module _ (rule : Rule) (d now : Desk) (B C : List Write → Type 0) (u v : Ran)
     (a : Advancing rule d now B C u v) where
-  pub advancing_on : (next : Desk) (D : List Write → Type 0) (w : List ℕ × ℕ) → length now.state.acks ≡ 8
+  pub advancing_on : (next : Desk) (D : List Write → Type 0) (w : Ran) → length now.state.acks ≡ 8
       → backed now ≡ true → Did rule now (settle_open now) next C D v w
       → Advancing rule d next B D u w × (count_by some next.state.acks < count_by some now.state.acks)
   advancing_on next D w eight e one = go a.turns a.going a.enough

@@ -13,7 +13,7 @@ use Rattle.command.specs.Verbs.{TellsVerb}
 use Rattle.journal.specs.declared.writes.Write.{Write}
 use Rattle.journal.specs.declared.writes.Write.TheVariants.{Promise, Put, Settle}
 use Rattle.machine.specs.Rules.{Rule}
-use Rattle.protocol.specs.Replies.{for_machine, ran, settled_in}
+use Rattle.protocol.specs.Replies.{for_machine, ran, settled_in, Ran, ran_one}
 
 abbrev is_change : Option Verb → Bool
 is_change None = false
@@ -34,24 +34,24 @@ change_told E F same n (Ok v) tells = change_from_16 n ∙ ap is_change tells �
 change_told E F same n (Err e) tells = change_from_16 n ∙ ap is_change tells.1
 
 -- what a command does that is for the machine, and that is not
-module _ (rule : Rule) (now : List ℕ × ℕ) (c : Command) where
-  pub ran_own : (next : List ℕ × ℕ) → leb 16 c.verb ≡ true → next.0 ≡ (rule now.0 c).0 → next.1 ≡ (rule now.0 c).1
+module _ (rule : Rule) (now : Ran) (c : Command) where
+  pub ran_own : (next : Ran) → leb 16 c.verb ≡ true → next.0 ≡ (rule now.0 c).0 → next.1 ≡ Some (rule now.0 c).1
       → next ≡ ran rule now (c ∷ [])
   unfolding ran
   ran_own next h e f =
       (λ i. (e i, f i))
-      ∙ ap (λ t. fold (λ (x : List ℕ × ℕ) (k : Command). rule x.0 k) now (cond t (c ∷ []) [])) (sym h)
+      ∙ ap (λ t. fold (ran_one rule) now (cond t (c ∷ []) [])) (sym h)
 
   pub ran_other : leb 16 c.verb ≡ false → now ≡ ran rule now (c ∷ [])
   unfolding ran
-  ran_other h = ap (λ t. fold (λ (x : List ℕ × ℕ) (k : Command). rule x.0 k) now (cond t (c ∷ []) [])) (sym h)
+  ran_other h = ap (λ t. fold (ran_one rule) now (cond t (c ∷ []) [])) (sym h)
 
-pub ran_append : (rule : Rule) (now : List ℕ × ℕ) (cs es : List Command)
+pub ran_append : (rule : Rule) (now : Ran) (cs es : List Command)
     → ran rule now (cs ++ es) ≡ ran rule (ran rule now cs) es
 unfolding ran
 ran_append rule now cs es =
-    ap (fold (λ (x : List ℕ × ℕ) (k : Command). rule x.0 k) now) (filter-append (λ c. leb 16 c.verb) cs es)
-    ∙ fold-append (λ (x : List ℕ × ℕ) (k : Command). rule x.0 k) now (for_machine cs) (for_machine es)
+    ap (fold (ran_one rule) now) (filter-append (λ c. leb 16 c.verb) cs es)
+    ∙ fold-append (ran_one rule) now (for_machine cs) (for_machine es)
 
 pub settled_append : (ws vs : List Write) → settled_in (ws ++ vs) ≡ settled_in ws ++ settled_in vs
 settled_append [] vs = refl

@@ -5,7 +5,7 @@ use Rattle.machine.specs.Rules.{Rule}
 use Rattle.protocol.specs.declared.messages.Message.{Message}
 use Rattle.protocol.specs.Desks.{Outcome, Step, left}
 use Rattle.protocol.specs.Desks as desks
-use Rattle.protocol.specs.Replies.{ran, settled_in}
+use Rattle.protocol.specs.Replies.{ran, settled_in, Ran}
 use Rattle.journal.specs.declared.Journal.{Ghosts}
 use Rattle.steps.specs.declared.desks.Desk.{Desk}
 use Rattle.steps.specs.Views.{view}
@@ -22,7 +22,7 @@ pub record Did
     (o : Outcome)
     (after : desks.Desk)
     (behind behind' : List Write → Type 0)
-    (ran-before ran-after : List ℕ × ℕ)
+    (ran-before ran-after : Ran)
     : Type 0 where
   pub desk : after ≡ left d o
   pub history : (ws : List Write) → behind ws → behind' (ws ++ o.writes)

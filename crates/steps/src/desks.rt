@@ -8,7 +8,7 @@ use crate::memory::Memory;
 use journal::Journal;
 
 /// A director at work in a call: its memory, with its journal and its machine, the chains that count for the slots of
-/// the window, and the machine's last answer in this call, or 0. The chains are those that the journal tells.
+/// the window, and the machine's last answer in this call, if it gave one. The chains are those that the journal tells.
 // A lifetime for each of the three, since a caller that lends them for one could not be proved.
 #[derive(Drop)]
 pub struct Desk<'d, 'j, 'm, J: Journal, M> {
@@ -16,6 +16,6 @@ pub struct Desk<'d, 'j, 'm, J: Journal, M> {
     pub journal: &'j mut J,
     pub machine: &'m mut M,
     pub chains: Chains,
-    pub answer: u16,
+    pub answer: Option<u16>,
     ghost ready: { Tells (view memory.now).founding (J.meaning journal.now).settled chains },
 }

@@ -31,8 +31,8 @@ impl Chains {
         requires { self.old.settled < 60000 }
         ensures { Follows self.old command.now self.new }
     {
-        let last = self.places[place_of(self.settled)];
+        let next = self.get(self.settled + 8).after(command);
         self.settled += 1;
-        self.places[place_of(self.settled)] = last.after(command);
+        self.places[place_of(self.settled)] = next;
     }
 }

@@ -6,21 +6,24 @@ use command::{Chain, Command, DirectorSet};
 use journal::Entry;
 use protocol::Acknowledged;
 
-/// A director follows, or it stands as a leader with those that promised its ballot.
+/// A director follows, or it stands as a leader with those that promised its ballot and what they reported.
 #[derive(Clone, Copy)]
 pub enum Role {
     Following,
-    Standing { promisers: DirectorSet },
+    Standing {
+        promisers: DirectorSet,
+        reports: [Entry; 8],
+    },
 }
 
-/// The memory of a director. The line and the reports count only while it stands.
+/// The memory of a director. The line counts only while it stands.
+// The line has its room while the director follows too, since no call may take memory.
 #[derive(Drop)]
 pub struct Memory {
     pub number: u8,
     pub founding: Chain,
     pub role: Role,
     pub line: Vec<Command>,
-    pub reports: [Entry; 8],
     pub acks: [Acknowledged; 8],
     ghost director: { number ≤ 31 },
     ghost few: { vec_len line ≤ 16 },

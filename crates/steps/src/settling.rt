@@ -8,7 +8,7 @@ ghost use Rattle.steps.specs.Views.{view};
 ghost use Rattle.std.specs.Prelude.{◌≡◌, [], ◌∷◌};
 
 use crate::desks::Desk;
-use crate::memory::Memory;
+use crate::memory::{Memory, Role};
 use command::{Command, Verb};
 use journal::{Entry, Journal};
 use machine::Machine;
@@ -67,20 +67,19 @@ impl Memory {
             places: &mut self.acks,
         }
         .put(slot, Acknowledged::NONE);
-        Window {
-            places: &mut self.reports,
+        if let Role::Standing { reports, .. } = &mut self.role {
+            Window { places: reports }.put(slot, Entry::BLANK);
         }
-        .put(slot, Entry::BLANK);
     }
 }
 
 // Applies a command if it is for the machine; the last answer is then the machine's.
-fn run<M: Machine>(machine: &mut M, command: &Command, answer: u16) -> u16
+fn run<M: Machine>(machine: &mut M, command: &Command, answer: Option<u16>) -> Option<u16>
     ensures { (M.state machine.new, result)
         ≡ ran M.rule (M.state machine.old, answer) (command.now ∷ []) }
 {
     if Verb::try_from(command.verb) == Ok(Verb::Change) {
-        machine.apply(command)
+        Some(machine.apply(command))
     } else {
         answer
     }

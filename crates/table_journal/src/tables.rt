@@ -58,20 +58,20 @@ impl TableJournal {
 
     // Whether a write is taken.
     #[tactic(auto, unfolding(journal::specs::Meaning::taken))]
-    fn takes(&self, write: &Write) -> bool
-        ensures { result ≡ taken write.now (table_meaning self.now) }
+    fn takes(&self, write: Write) -> bool
+        ensures { result ≡ taken write (table_meaning self.now) }
     {
         match write {
-            Write::Promise { ballot } => self.promised <= *ballot,
+            Write::Promise { ballot } => self.promised <= ballot,
             Write::Put {
                 slot,
                 ballot,
                 command,
             } => {
-                *ballot == self.promised
-                    && *ballot != 0
-                    && self.is_open(*slot)
-                    && *slot <= self.capacity
+                ballot == self.promised
+                    && ballot != 0
+                    && self.is_open(slot)
+                    && slot <= self.capacity
                     && command.is_well_formed()
             },
             Write::Settle { command } => (self.settled.len() as u32) < self.capacity
@@ -80,12 +80,12 @@ impl TableJournal {
     }
 
     // Makes a write if it is taken, and tells whether it was.
-    fn write(&mut self, write: &Write) -> bool
-        ensures { Writes table_meaning table_behind write.now self.old self.new result }
+    fn write(&mut self, write: Write) -> bool
+        ensures { Writes table_meaning table_behind write self.old self.new result }
     {
         let taken = self.takes(write);
         if taken {
-            match *write {
+            match write {
                 Write::Promise { ballot } => self.promised = ballot,
                 Write::Put {
                     slot,
@@ -139,11 +139,11 @@ impl Journal for TableJournal {
     }
 
     fn promise(&mut self, ballot: u32) -> bool {
-        self.write(&Write::Promise { ballot })
+        self.write(Write::Promise { ballot })
     }
 
     fn put(&mut self, slot: u32, ballot: u32, command: &Command) -> bool {
-        self.write(&Write::Put {
+        self.write(Write::Put {
             slot,
             ballot,
             command: *command,
@@ -151,6 +151,6 @@ impl Journal for TableJournal {
     }
 
     fn settle(&mut self, command: &Command) -> bool {
-        self.write(&Write::Settle { command: *command })
+        self.write(Write::Settle { command: *command })
     }
 }

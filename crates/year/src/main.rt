@@ -13,8 +13,7 @@ use machine::Ledger;
 use std::env;
 use std::process::ExitCode;
 
-const USAGE: &str =
-    "usage: year | year seal LIST FILE | year read FILE | year show FILE [ledger]";
+const USAGE: &str = "usage: year | year seal LIST FILE | year read FILE | year show FILE [ledger]";
 
 fn main(rt: HostRuntime) -> ExitCode {
     console::status(run(&rt))
@@ -22,7 +21,11 @@ fn main(rt: HostRuntime) -> ExitCode {
 
 fn run(rt: &HostRuntime) -> anyhow::Result<()> {
     let given = env::args(rt)?.collect::<Vec<_>>(rt.alloc())?;
-    let words = given.iter().skip(1).map(|word| word.as_str()).collect::<Vec<_>>(rt.alloc())?;
+    let words = given
+        .iter()
+        .skip(1)
+        .map(|word| word.as_str())
+        .collect::<Vec<_>>(rt.alloc())?;
     match words.as_slice() {
         [] => demo::run(rt),
         ["seal", list, file] => jobs::seal(rt, list, file),

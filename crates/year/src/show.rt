@@ -44,11 +44,7 @@ fn write_rows<F: Fn(u8) -> u16>(text: &mut String, name: &str, number_of: F) -> 
 }
 
 /// The header, the entries, the chain after all of them, and the table that the list leads to.
-pub(crate) fn text<T: Table>(
-    heap: Global,
-    reader: &Reader,
-    mut table: T,
-) -> Result<String, Fault> {
+pub(crate) fn text<T: Table>(heap: Global, reader: &Reader, mut table: T) -> Result<String, Fault> {
     let count = reader.count();
     let bytes = reader.file.len();
     let mut text = format!(in heap; "archive of {count} entries, {bytes} bytes, founding ")?;

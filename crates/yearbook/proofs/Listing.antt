@@ -18,21 +18,17 @@ use Rattle.listing.proofs.ReadBack.{text_back}
 use Rattle.archive.specs.declared.lists.ListRefusal.{ListRefusal}
 use Rattle.archive.specs.declared.writing.Refusal.TheVariants.{Full}
 use Rattle.archive.specs.declared.lists.ListRefusal.TheVariants.{Entry as Refused}
-use Rattle.archive.proofs.OneEntry.{some_none}
 use Rattle.std.proofs.lemmas.Bool.{leb-false}
 use Rattle.std.proofs.lemmas.List.Elements.{All-nil, All-cons}
 use Rattle.yearbook.specs.declared.faults.SealFault.{SealFault}
 use Rattle.yearbook.specs.declared.faults.SealFault.TheVariants.{List as NoList, Entry, Memory as NoMemory}
 use Rattle.yearbook.specs.Years.{Told, Unfiled, Unsealed}
 
-err_ok : {A B : Type 0} {e : B} {x : A} → ◌≡◌ {A = Result A B} (Err e) (Ok x) → ⊥
-err_ok h = let z : ◌≡◌ {A = ℕ} 0 1 = cc in omega arith
-
 -- every command of a list that was read is well formed
 judged_formed : (n : ℕ) (o : Option Command) (rest : Result (List Command) Fault) (cs : List Command)
     → ((ds : List Command) → rest ≡ Ok ds → AllPass well_formed ds) → judged n o rest ≡ Ok cs
     → AllPass well_formed cs
-judged_formed n None rest cs h e = absurd (err_ok e)
+judged_formed n None rest cs h e = absurd (cc)
 judged_formed n (Some c) rest cs h e = go (well_formed c) refl rest h e
   where
     go : (b : Bool) → well_formed c ≡ b → (r : Result (List Command) Fault)
@@ -40,8 +36,8 @@ judged_formed n (Some c) rest cs h e = go (well_formed c) refl rest h e
         → cond b (before c r) (Err (IllFormed n)) ≡ Ok cs → AllPass well_formed cs
     go true w (Ok ds) h e = let same : c ∷ ds ≡ cs = cc in subst
         (AllPass well_formed) same (All-cons (λ d. well_formed d ≡ true) c ds w (h ds refl))
-    go true w (Err f) h e = absurd (err_ok e)
-    go false w r h e = absurd (err_ok e)
+    go true w (Err f) h e = absurd (cc)
+    go false w r h e = absurd (cc)
 
 entries_formed : (ls : List (List ℕ)) (n : ℕ) (cs : List Command) → entries_from n ls ≡ Ok cs
     → AllPass well_formed cs
@@ -56,22 +52,22 @@ pub record Sound (l : Listed) : Type 0 where
 
 listed_sound : (m : Membership) (r : Result (List Command) Fault) (l : Listed) → valid_chain m.members ≡ true
     → ((ds : List Command) → r ≡ Ok ds → AllPass well_formed ds) → listed m r ≡ Ok l → Sound l
-listed_sound m (Err f) l v h e = absurd (err_ok e)
+listed_sound m (Err f) l v h e = absurd (cc)
 listed_sound m (Ok cs) l v h e =
     let same : record { chain = m; commands = cs } ≡ l = cc in
     subst Sound same (record { chain = v; formed = h cs refl })
 
 chained_sound : (o : Option (List ℕ)) (ls : List (List ℕ)) (l : Listed) → chained o ls ≡ Ok l → Sound l
-chained_sound None ls l e = absurd (err_ok e)
+chained_sound None ls l e = absurd (cc)
 chained_sound (Some ms) ls l e = go (valid_chain ms) refl e
   where
     go : (b : Bool) → valid_chain ms ≡ b → cond b (listed (founded ms) (entries_from 2 ls)) (Err InvalidChain) ≡ Ok l
         → Sound l
     go true v e = listed_sound (founded ms) (entries_from 2 ls) l v (λ ds q. entries_formed ls 2 ds q) e
-    go false v e = absurd (err_ok e)
+    go false v e = absurd (cc)
 
 lines_sound : (ls : List (List ℕ)) (l : Listed) → read_lines ls ≡ Ok l → Sound l
-lines_sound [] l e = absurd (err_ok e)
+lines_sound [] l e = absurd (cc)
 lines_sound (x ∷ ls) l e = chained_sound (read_chain x) ls l e
 
 pub read_sound : (text : List ℕ) (l : Listed) → read_text text ≡ Ok l → Sound l
@@ -111,5 +107,5 @@ overfull cs e h = go (leb (length cs) most) refl h
   where
     go : (b : Bool) → leb (length cs) most ≡ b → Some e ≡ cond b None (Some (Refused (most + 1) Full))
         → Unfiled cs (Entry e)
-    go true q h = absurd (some_none h)
+    go true q h = absurd (cc)
     go false q h = (leb-false (length cs) most q, cc)

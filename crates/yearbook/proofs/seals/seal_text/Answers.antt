@@ -14,7 +14,7 @@ file_of-requires c =
     let sound = read_sound c.args.text.now (list_of c.in_ok-list.list)
     (sym c.in_ok-list.ensures.answer) in
     record {
-      chain = ap valid_chain c.members.ensures
+      chain = ap valid_chain c.members.ensures.members
           ∙ sound.chain;
       formed = rw c.as_slice.ensures.value sound.formed;
     }
@@ -26,7 +26,7 @@ returns c =
     record {
       list = l;
       told = sym c.in_ok-list.ensures.answer;
-      file = subst₂ (λ (ms : List ℕ) (cs : List Command). Archive file ms cs) c.members.ensures
+      file = subst₂ (λ (ms : List ℕ) (cs : List Command). Archive file ms cs) c.members.ensures.members
           c.as_slice.ensures.value
           c.in_ok-file.ensures;
       entries = c.len.ensures ∙ c.in_ok-list.list.commands.ok.0;

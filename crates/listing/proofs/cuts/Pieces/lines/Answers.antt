@@ -1,12 +1,15 @@
-use Rattle.std.proofs.Common.{sym, arith}
-use Rattle.listing.proofs.Cutting.{lines_none, lines_cut, lines_whole}
-use Rattle.listing.proofs.cuts.Pieces.lines.Goals.{in-empty, in-10, in_default}
+use Rattle.std.proofs.Common.{[], ◌∷◌, sym, arith}
+use Rattle.std.proofs.lemmas.Bool.Decides.{Decides-eqb}
+use Rattle.std.proofs.lemmas.Slice.Eq.{strip_suffix_is}
+use Rattle.listing.proofs.Cutting.{lines_none, lines_stripped}
+use Rattle.listing.proofs.cuts.Pieces.lines.Goals.{in-empty, in_default}
 use Rattle.listing.proofs.cuts.Pieces.lines.Goals as goal
 
 pub returns : goal.returns
 returns c =
     elim c.if-text-lt1.branch [
-      | in-empty w ↦ rw w.rest-is (sym (lines_none _ w.in-empty.len_below))
-      | in-10 w ↦ rw w.rest-is (sym (lines_cut _ w.in-10.len_at_least (omega arith)))
-      | in_default w ↦ rw w.rest-is (sym (lines_whole _ w.in_default.len_at_least (omega arith)))
+      | in-empty w ↦ rw w.rest-is (sym (lines_none c.args.text.now (omega arith)))
+      | in_default w ↦
+          let s = strip_suffix_is Decides-eqb c.args.text.now (10 ∷ []) w.strip_suffix.result w.strip_suffix.ensures.cases in
+          rw (w.rest-is, w.unwrap_or.ensures) (sym (lines_stripped c.args.text w.strip_suffix.result (omega arith) s))
     ]
