@@ -47,14 +47,6 @@ module _ (area : List ℕ) where
     unfolding fault
     fault_later = grind (arith, nat_tests)
 
-    pub fault_place : (i : ℕ) → Some i ≡ first_bad (place_is_good area) 0 8 → fault area ≡ Some (Broken (place_at i))
-    fault_place i e = rw (fault_later, ← e)
-
-    pub fault_record : (i : ℕ) → None ≡ first_bad (place_is_good area) 0 8
-        → Some i ≡ first_bad (record_is_good area) 0 (count_of area)
-        → fault area ≡ Some (Broken (record_at i))
-    fault_record i e h = rw (fault_later, ← e, ← h)
-
     pub fault_none : None ≡ first_bad (place_is_good area) 0 8 → None ≡ first_bad (record_is_good area) 0 (count_of area)
         → fault area ≡ None
     fault_none e h = rw (fault_later, ← e, ← h)

@@ -2,7 +2,7 @@
 
 ghost use Rattle.std.specs.Prelude.{◌≡◌, ◌<◌, ◌≤◌, Some, None, IfSome, MatchResult};
 ghost use Rattle.area_journal.specs.Exactness.{Exact};
-ghost use Rattle.area_journal.specs.Opening.{record_good, is_held, place_is_good, record_is_good, first_bad, fault};
+ghost use Rattle.area_journal.specs.Opening.{record_good, is_held, place_good, place_is_good, record_is_good, first_bad, fault};
 ghost use Rattle.area_journal.specs.Reading.{capacity_of, promised_of, count_of};
 ghost use Rattle.journal.specs.Windows.{in_window};
 
@@ -23,7 +23,7 @@ pub(crate) fn check(area: &[u8]) -> Result<(), OpenFault>
 
 impl Parts<'_> {
     // The first place that is not in order, or else the first such record.
-    #[tactic(auto, using(crate::proofs::Checks::fault_place, crate::proofs::Checks::fault_record, crate::proofs::Checks::fault_none,))]
+    #[tactic(auto, using(crate::proofs::Checks::fault_later))]
     fn check_parts(&self) -> Result<(), OpenFault>
         ensures { MatchResult result (λ _. fault self.now.area.now ≡ None) (λ e. fault self.now.area.now ≡ Some e) }
     {
@@ -46,7 +46,7 @@ impl Parts<'_> {
         ensures answer { result ≡ first_bad (place_is_good self.now.area.now) 0 8 }
         ensures within { IfSome result (λ i. i < 8) }
     {
-        (0..SPAN).find(|&i| !self.is_good_place(i))
+        (0..SPAN).find(|&i| !self.is_good_place(i, self.place(i)))
     }
 
     // The first settled record that is not in order.
@@ -58,13 +58,11 @@ impl Parts<'_> {
         (0..self.count() as usize).find(|&i| !is_good_record(self.record(i)))
     }
 
-    // Whether place i is in order: blank, or an entry that may stand there.
-    #[tactic(auto, unfolding(crate::specs::Opening::place_is_good))]
-    fn is_good_place(&self, i: usize) -> bool
-        requires { i < 8 }
-        ensures { result ≡ place_is_good self.now.area.now i }
+    // Whether these are bytes of place i in order: none, or an entry that may stand there.
+    fn is_good_place(&self, i: usize, place: &Place) -> bool
+        ensures { result ≡ place_good (capacity_of self.now.area.now) (promised_of self.now.area.now)
+            (count_of self.now.area.now) i place.now }
     {
-        let place = self.place(i);
         *place == BLANK || self.may_hold(i, place)
     }
 

@@ -22,6 +22,7 @@ use journal::{Entry, Journal, SPAN, Write};
 impl AreaJournal {
     /// Takes an area with any content as a journal, or hands it back with the first fault: refusal 12 where it has no
     /// space for a record, else 13 with the offset of the first part that is not in order. No byte is altered.
+    #[tactic(auto, using(crate::proofs::Checks::none_sound, crate::proofs::Checks::sound_parts))]
     pub fn open(area: Vec<u8>) -> Result<AreaJournal, NotOpened>
         ensures opens { Opens area.items result }
         ensures exact { Exact area.items }
@@ -40,6 +41,7 @@ impl AreaJournal {
     }
 
     /// Makes a write if it is taken, and answers whether it was. It alters the bytes of that write and no others.
+    #[tactic(auto, using(crate::proofs::Keeping::did_in, crate::proofs::Meanings::does_not))]
     pub fn write(&mut self, write: Write) -> bool
         ensures does { Does write (bytes_of self.old) (bytes_of self.new) result }
         ensures writes { Writes tells may_lie_behind write self.old self.new result }
