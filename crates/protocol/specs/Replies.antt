@@ -1,5 +1,5 @@
 -- What follows from a step: what the machine does, and what the call answers.
-use Rattle.std.specs.Prelude.{ℕ, cond, List, [], ◌∷◌, ◌++◌, length, drop, fold, filter, nat_le, Option, Some, None}
+use Rattle.std.specs.Prelude.{ℕ, cond, List, [], ◌∷◌, ◌++◌, length, drop, fold, filter, nat_le, Option, Some, None, unwrap_or}
 use Rattle.command.specs.declared.Command.{Command}
 use Rattle.journal.specs.declared.writes.Write.{Write}
 use Rattle.journal.specs.declared.writes.Write.TheVariants.{Promise, Put, Settle}
@@ -43,14 +43,13 @@ machine_after make call d s o =
     cond (is_restart call) (ran make.rule (make.start, None) d.journal.settled)
     (ran make.rule (s, None) (settled_in o.writes))
 
--- the answer: the messages written, the slots settled now, and the machine's last answer in this call, if there was
--- one
+-- the answer: the messages written, the slots settled now, and the machine's last answer in this call, or 0
 abbrev pub reply_of : Make → Call → Desk → List ℕ → Outcome → Reply
 reply_of make call d s o =
     record {
       messages = length o.messages;
       settled = settled_by (left d o);
-      answer = (machine_after make call d s o).1;
+      answer = unwrap_or (machine_after make call d s o).1 0;
     }
 
 -- the table with the messages at its front; the other places stay

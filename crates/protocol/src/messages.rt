@@ -36,10 +36,11 @@ impl Acknowledged {
 }
 
 /// What an accepted call answers: how many messages it wrote to the table, how many slots are settled now, and the
-/// machine's last answer in this call, if it gave one.
+/// machine's last answer in this call, or 0.
+// Three numbers, and no Option: 0 also where the machine gave no answer is what a call is to tell.
 #[derive(Clone, Copy, PartialEq, Eq, Debug)]
 pub struct Reply {
     pub messages: usize,
     pub settled: u32,
-    pub answer: Option<u16>,
+    pub answer: u16,
 }
