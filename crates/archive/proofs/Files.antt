@@ -27,11 +27,7 @@ passed a b c d h = grind (arith, nat_tests)
 
 counted : (f : List ℕ) (cs : List Command) (o : Option ℕ) → or_count f cs o ≡ None
     → (o ≡ None) × (has_count f cs ≡ true)
-counted f cs (Some i) e = absurd (cc)
-counted f cs None e = (refl, none_is (has_count f cs) _ e)
-  where
-    none_is : (b : Bool) (x : Broken) → cond b None (Some x) ≡ None → b ≡ true
-    none_is b x e = grind (arith, nat_tests)
+counted f cs o e = grind (arith, nat_tests)
 
 pub chained : (f : List ℕ) → start_of f ≤ count_at f → valid_chain (members_of f) ≡ true → has_chain f ≡ true
 chained f fits valid = grind (arith, nat_tests)

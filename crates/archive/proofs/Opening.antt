@@ -1,8 +1,9 @@
 -- Opening a file, by what its tests found.
-use Rattle.std.proofs.Common.{◌≡◌, ℕ, ◌-◌, ◌≤◌, true, cond, List, length, get_or, take, drop, Some, None, Ok, Err, Option, sym, refl, ap, ◌∙◌, arith}
+use Rattle.std.proofs.Common.{◌≡◌, ℕ, ◌-◌, ◌≤◌, true, cond, List, length, get_or, take, drop, Some, None, Ok, Err, Option, sym, ap, ◌∙◌, arith}
 use Rattle.std.proofs.lemmas.List.{take_all, length-drop}
 use Rattle.std.proofs.lemmas.Slice.{between_is}
 use Rattle.std.proofs.lemmas.Bool.{eq-eqb, ne_eqb}
+use Rattle.std.proofs.lemmas.Bool.Decides.{nat_tests}
 use Rattle.octets.specs.Areas.{part}
 use Rattle.octets.specs.Numbers.{num}
 use Rattle.command.specs.declared.Command.{Command}
@@ -15,13 +16,11 @@ use Rattle.archive.proofs.Files.{chained, fault_after}
 
 -- what a count tells of the entries
 counted_all : (n k : ℕ) (o : Option ℕ) → Ok n ≡ counted_as k o → (o ≡ None) × (n ≡ k)
-counted_all n k None e = (refl, cc)
-counted_all n k (Some i) e = absurd (cc)
+counted_all n k o e = grind (arith, nat_tests)
 
 counted_broken : (f : List ℕ) (cs : List Command) (b : Broken) (k : ℕ) (o : Option ℕ) → Err b ≡ counted_as k o
     → or_count f cs o ≡ Some b
-counted_broken f cs b k None e = absurd (cc)
-counted_broken f cs b k (Some i) e = cc
+counted_broken f cs b k o e = grind (arith, nat_tests)
 
 -- the file is long enough, and mark and chain are whole
 module _ (f : List ℕ) (long : 8 ≤ length f) (marked : has_mark f ≡ true) (near : start_of f ≤ count_at f)

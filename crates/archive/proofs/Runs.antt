@@ -1,7 +1,6 @@
 -- What an open archive and its area hold after any calls, each of which got the area as the last left it.
-use Rattle.std.proofs.Common.{◌≡◌, ℕ, ◌+◌, ◌≤◌, Bool, true, cond, ltb, List, [], ◌∷◌, ◌++◌, length, take, Some, None, Option, sym, refl, ap, ◌∙◌, ap₂, append_assoc, append-nil, arith}
+use Rattle.std.proofs.Common.{◌≡◌, ℕ, ◌+◌, ◌<◌, ◌≤◌, true, List, [], ◌∷◌, ◌++◌, length, take, None, sym, refl, ap, ◌∙◌, ap₂, append_assoc, append-nil, arith}
 use Rattle.std.specs.List.{All, AllPass}
-use Rattle.std.proofs.lemmas.Bool.{leb-true, ltb-true}
 use Rattle.std.proofs.lemmas.Bool.Decides.{nat_tests}
 use Rattle.std.proofs.lemmas.List.Elements.{All-nil, All-push}
 use Rattle.std.proofs.lemmas.List.{length-append, length_push, flat_map_more}
@@ -12,10 +11,8 @@ use Rattle.command.specs.declared.Command.{Command}
 use Rattle.command.specs.Commands.{well_formed, Sized}
 use Rattle.command.specs.Members.{valid_chain}
 use Rattle.archive.specs.declared.writing.OpenArchive.{OpenArchive}
-use Rattle.archive.specs.declared.writing.Refusal.{Refusal}
-use Rattle.archive.specs.declared.writing.Refusal.TheVariants.{IllFormed, InvalidChain, NoSpace, Full}
 use Rattle.archive.specs.Layout.{header, entry, entries, layout}
-use Rattle.archive.specs.Writing.{left, has_room, begin_refusal, begun, add_refusal, grown, seal_refusal, Run}
+use Rattle.archive.specs.Writing.{left, begin_refusal, begun, add_refusal, grown, seal_refusal, Run}
 use Rattle.archive.specs.Writing.{began, added, Sealed}
 
 -- the front of the area is header and entries, the archive tells where they end and how many there are, the count has
@@ -30,15 +27,19 @@ pub record Holds (area : List ℕ) (o : OpenArchive) (ms : List ℕ) (cs : List 
   pub content : take o.at area ≡ header ms ++ entries cs
   pub room : o.at + 2 ≤ length area
 
--- a test that did not refuse passed
-passes : (e : Refusal) (b : Bool) (o : Option Refusal) → cond b o (Some e) ≡ None → (b ≡ true) × (o ≡ None)
-passes e b o h = grind (arith, nat_tests)
+-- what a call that was taken was given
+begin_given : (area ms : List ℕ) → begin_refusal area ms ≡ None
+    → (valid_chain ms ≡ true) × (length (header ms) + 2 ≤ length area)
+begin_given area ms e = grind (arith, nat_tests)
+
+add_given : (area : List ℕ) (o : OpenArchive) (c : Command) → add_refusal area o c ≡ None
+    → (well_formed c ≡ true) × (o.count < 65535) × (o.at + length (entry c) + 2 ≤ length area)
+add_given area o c e = grind (arith, nat_tests)
 
 begun_holds : (old ms : List ℕ) → begin_refusal old ms ≡ None → Holds (over old 0 (header ms)) (begun ms) ms []
 begun_holds old ms h =
-    let p = passes InvalidChain (valid_chain ms) _ h in
-    let q = passes NoSpace (has_room old 0 (length (header ms))) None p.1 in
-    let room = leb-true (0 + length (header ms) + 2) (length old) q.0 in
+    let p = begin_given old ms h in
+    let room = p.1 in
     let zero_at : length (header ms) ≡ 0 + length (header ms) = omega arith in
     let kept = length_over old 0 (header ms) (omega arith) in
     record {
@@ -56,11 +57,9 @@ begun_holds old ms h =
 grown_holds : (old : List ℕ) (o : OpenArchive) (ms : List ℕ) (cs : List Command) (c : Command) → Holds old o ms cs
     → Sized c → add_refusal old o c ≡ None → Holds (over old o.at (entry c)) (grown o c) ms (cs ++ (c ∷ []))
 grown_holds old o ms cs c h s e =
-    let p = passes IllFormed (well_formed c) _ e in
-    let q = passes Full (ltb o.count 65535) _ p.1 in
-    let r = passes NoSpace (has_room old o.at (length (entry c))) None q.1 in
-    let few = ltb-true o.count 65535 q.0 in
-    let room = leb-true (o.at + length (entry c) + 2) (length old) r.0 in
+    let p = add_given old o c e in
+    let few = p.1 in
+    let room = p.2 in
     let kept = length_over old o.at (entry c) (omega arith) in
     let more = length_push cs c in
     let count = h.count in

@@ -1,23 +1,20 @@
 -- Going through the entries: it finds just the commands whose entries the bytes are.
-use Rattle.std.proofs.Common.{◌≡◌, ℕ, zero, suc, ◌+◌, ◌-◌, ◌<◌, ◌≤◌, true, List, [], ◌∷◌, ◌++◌, length, get_or, take, drop, Some, None, Ok, Err, Option, sym, refl, ap, ◌∙◌, ap₂, arith}
+use Rattle.std.proofs.Common.{◌≡◌, ℕ, zero, suc, ◌+◌, ◌-◌, ◌<◌, ◌≤◌, true, List, [], ◌∷◌, ◌++◌, length, take, drop, Some, None, Ok, Err, Option, sym, refl, ap, ◌∙◌, ap₂, arith}
 use Rattle.std.specs.List.{All, AllPass}
 use Rattle.std.proofs.ByRecursion.{All-drop}
 use Rattle.std.proofs.lemmas.List.Elements.{All-nil, All-cons, All-tail}
 use Rattle.std.proofs.lemmas.List.{nil_from_length, length-drop, drop_at, take-append-drop}
+use Rattle.std.proofs.lemmas.Bool.Decides.{nat_tests}
 use Rattle.octets.proofs.Numbers.{Bytes}
 use Rattle.command.specs.declared.Command.{Command}
-use Rattle.command.specs.Commands.{verb_of, well_formed, Sized}
+use Rattle.command.specs.Commands.{well_formed, Sized}
 use Rattle.archive.specs.Layout.{entry, entries}
-use Rattle.archive.specs.Reading.{size_of, command_of, after, first_of, Found, found, and_then, found_from, scan, scan_all, counted_as}
-use Rattle.archive.specs.Readers.{Gives, shown}
+use Rattle.archive.specs.Reading.{size_of, command_of, Found, found, and_then, found_from, scan, scan_all, counted_as}
+use Rattle.archive.specs.Readers.{Gives}
 use Rattle.archive.specs.declared.reading.Broken.TheVariants.{Entry as BrokenEntry}
 use Rattle.archive.specs.declared.entries.Entry.{Entry}
 use Rattle.archive.specs.declared.entries.Entries.{Entries}
-use Rattle.archive.proofs.OneEntry.{Reread, reread, rewritten, sized_part}
-
--- an entry has at least one byte, and lies within those that are left
-pub within_left : (bs : List ℕ) (s : ℕ) → size_of bs ≡ Some s → (1 ≤ s) × (s ≤ length bs)
-within_left bs s h = sized_part (verb_of (get_or bs 0 0)) (get_or bs 1 0) (length bs) s h
+use Rattle.archive.proofs.OneEntry.{Reread, reread, rewritten, within_left}
 
 -- the same function of the bytes after an entry is found from each of two
 found_same : (o : Option ℕ) (e : ℕ) (bs : List ℕ) (f g : List ℕ → Found)
@@ -61,33 +58,33 @@ pub scan_end : (i : ℕ) → scan_all i [] ≡ found [] None
 unfolding scan
 scan_end i = refl
 
-same : (i j : ℕ) (xs ys : List ℕ) → ◌≡◌ {A = Option (ℕ × List ℕ)} (Some (i, xs)) (Some (j, ys)) → xs ≡ ys
-same i j xs ys h = let p : ◌≡◌ {A = ℕ × List ℕ} (i, xs) (j, ys) = cc in ap (λ q. q.1) p
-
 -- what it means that an entry was given, of this many bytes
 pub record Gave (s : Entries) (x : Entry) (t : Entries) (k : ℕ) : Type 0 where
   pub size : size_of s.rest.now ≡ Some k
   pub bytes : x.bytes.now ≡ take k s.rest.now
   pub left : t.rest.now ≡ drop k s.rest.now
 
+gave_size : (s t : Entries) (x : Entry) → Gives s (Some x) t → size_of s.rest.now ≡ None → ⊥
+gave_size s t x g e = grind (arith, nat_tests)
+
+gave_bytes : (s t : Entries) (x : Entry) (k : ℕ) → Gives s (Some x) t → size_of s.rest.now ≡ Some k
+    → x.bytes.now ≡ take k s.rest.now
+gave_bytes s t x k g e = grind (arith, nat_tests)
+
+gave_left : (s t : Entries) (x : Entry) (k : ℕ) → Gives s (Some x) t → size_of s.rest.now ≡ Some k
+    → t.rest.now ≡ drop k s.rest.now
+gave_left s t x k g e = grind (arith, nat_tests)
+
 pub gave : (s t : Entries) (x : Entry) → Gives s (Some x) t → (k : ℕ) × Gave s x t k
-gave s t x g = go (size_of s.rest.now) refl g.answer
+gave s t x g = go (size_of s.rest.now) refl
   where
-    go : (o : Option ℕ) → size_of s.rest.now ≡ o
-        → shown (Some x) ≡ first_of s.end s.rest.now o
-        → (k : ℕ) × Gave s x t k
-    go None q h = absurd (cc)
-    go (Some k) q h = (k, record { size = q; bytes = same _ _ _ _ h; left = g.after ∙ ap (λ o. after o s.rest.now) q })
+    go : (o : Option ℕ) → size_of s.rest.now ≡ o → (k : ℕ) × Gave s x t k
+    go None q = absurd (gave_size s t x g q)
+    go (Some k) q = (k, record { size = q; bytes = gave_bytes s t x k g q; left = gave_left s t x k g q })
 
 -- and that none was
 pub gave_none : (s t : Entries) → Gives s None t → (size_of s.rest.now ≡ None) × (t.rest.now ≡ s.rest.now)
-gave_none s t g = go (size_of s.rest.now) refl g.answer
-  where
-    go : (o : Option ℕ) → size_of s.rest.now ≡ o
-        → shown None ≡ first_of s.end s.rest.now o
-        → (size_of s.rest.now ≡ None) × (t.rest.now ≡ s.rest.now)
-    go None q h = (q, g.after ∙ ap (λ o. after o s.rest.now) q)
-    go (Some k) q h = absurd (cc)
+gave_none s t g = grind (arith, nat_tests)
 
 -- one entry more was counted
 pub counted_more : (n : ℕ) (s t : Entries) (x : Entry) → Gives s (Some x) t

@@ -1,30 +1,25 @@
 -- With space for the longest entries, only their number can be refused.
-use Rattle.std.proofs.Common.{◌≡◌, ℕ, suc, ◌+◌, ◌*◌, ◌≤◌, cond, leb, List, [], ◌∷◌, length, Some, None, Option, sym, refl, ap, ◌∙◌, inl, inr, arith}
+use Rattle.std.proofs.Common.{◌≡◌, ℕ, suc, ◌+◌, ◌*◌, ◌≤◌, cond, leb, List, [], ◌∷◌, length, Some, None, sym, refl, ap, ◌∙◌, inl, inr, arith}
 use Rattle.std.specs.List.{AllPass}
 use Rattle.std.proofs.lemmas.Bool.{le-leb, lt-leb, cases_lt, cond-true, cond-false}
 use Rattle.archive.proofs.Scans.{formed_rest}
+use Rattle.std.proofs.lemmas.Bool.Decides.{nat_tests}
 use Rattle.octets.specs.Areas.{over}
 use Rattle.octets.proofs.Areas.{length_over}
 use Rattle.command.specs.declared.Command.{Command}
-use Rattle.command.specs.declared.verbs.Verb.{Verb}
-use Rattle.command.specs.declared.verbs.Verb.TheVariants.{Noop, Add, Remove, Change}
-use Rattle.command.specs.Commands.{verb_of, well_formed, serial_bytes}
+use Rattle.command.specs.Commands.{well_formed, serial_bytes}
 use Rattle.archive.specs.declared.writing.OpenArchive.{OpenArchive}
 use Rattle.archive.specs.declared.writing.Refusal.TheVariants.{Full}
 use Rattle.archive.specs.declared.lists.ListRefusal.TheVariants.{Begin, Entry}
-use Rattle.archive.specs.Layout.{header, entry, entry_as, most}
+use Rattle.archive.specs.Layout.{header, entry, most}
 use Rattle.archive.specs.Lists.{adds_refusal, EnoughSpace}
 use Rattle.archive.specs.Writing.{begin_refusal, begun, add_refusal, grown}
 use Rattle.archive.proofs.Calls.{begin_taken, add_taken, add_full}
 use Rattle.archive.proofs.WholeLists.{or_later, or_refused}
 
 -- no entry is longer than a change
-entry_short : (v : Option Verb) (c : Command) → length (entry_as v c) ≤ 7 + serial_bytes
-entry_short None c = omega arith
-entry_short (Some Noop) c = omega arith
-entry_short (Some Add) c = omega arith
-entry_short (Some Remove) c = omega arith
-entry_short (Some Change) c = omega arith
+entry_short : (c : Command) → length (entry c) ≤ 7 + serial_bytes
+entry_short c = grind (arith, nat_tests)
 
 adds : (cs : List Command) (area : List ℕ) (o : OpenArchive) → AllPass well_formed cs → o.count ≤ most
     → o.at + length cs * (7 + serial_bytes) + 2 ≤ length area
@@ -33,7 +28,7 @@ adds : (cs : List Command) (area : List ℕ) (o : OpenArchive) → AllPass well_
 unfolding adds_refusal
 adds [] area o h l space = sym (cond-true _ None _ (le-leb (o.count + 0) most (omega arith)))
 adds (c ∷ cs) area o h l space =
-    let short = entry_short (verb_of c.verb) c in
+    let short = entry_short c in
     elim (cases_lt o.count most) [
       | inl less ↦
           let taken = add_taken area o c (length (entry c)) (h 0 c (omega arith)) less refl

@@ -78,8 +78,7 @@ entry_of_part f ms cs (suc m) a =
 -- how many were passed over of one more, and one was
 fewer : (r : Option Entry) (k n : ℕ) → MatchOption r (suc k ≤ n) (λ _. suc k ≡ n)
     → (1 ≤ n) × MatchOption r (k ≤ n - 1) (λ _. k ≡ n - 1)
-fewer None k n h = (omega arith, omega arith)
-fewer (Some x) k n h = (omega arith, omega arith)
+fewer r k n h = grind (arith, nat_tests)
 
 -- calls that passed over n entries, or over all where there are fewer, and then gave the next
 pub skipped : (xs : List Entry) (n : ℕ) (s t u : Entries) (r : Option Entry) → Yields Gives s xs t → Gives t r u

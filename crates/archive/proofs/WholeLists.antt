@@ -26,11 +26,6 @@ pub left_none : (x : Option Refusal) (area written exit : List ℕ) → exit ≡
     → exit ≡ written
 left_none x area written exit h e = h ∙ ap (λ y. left y area written) e
 
-pub left_some : (x : Option Refusal) (area written exit : List ℕ) (r : Refusal) → exit ≡ left x area written
-    → x ≡ Some r
-    → exit ≡ area
-left_some x area written exit r h e = h ∙ ap (λ y. left y area written) e
-
 -- `map_err` leaves what is well
 pub was_ok : {X D E : Type 0} (r : Result X E) (q : Result X D) (P : E → D → Type 0)
     → MatchResult r (λ x. q ≡ Ok x) (λ e. IsErrAnd q (P e)) → (x : X) → q ≡ Ok x → r ≡ Ok x

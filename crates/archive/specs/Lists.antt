@@ -1,5 +1,5 @@
 -- What writing a whole list comes to.
-use Rattle.std.specs.Prelude.{◌≡◌, ℕ, ◌+◌, ◌*◌, ◌≤◌, true, cond, List, [], ◌∷◌, length, take, replicate, Some, None, Ok, Err, Option, Result, nat_le}
+use Rattle.std.specs.Prelude.{◌≡◌, ℕ, ◌+◌, ◌*◌, ◌^◌, ◌≤◌, true, cond, if◌then◌else◌, List, [], ◌∷◌, length, take, replicate, Some, None, Ok, Err, Option, Result, nat_le, nat_lt}
 use Rattle.std.specs.List.{AllPass}
 use Rattle.octets.specs.Areas.{over}
 use Rattle.command.specs.declared.Command.{Command}
@@ -43,6 +43,10 @@ Wrote ms cs area exit (Err e) = (list_refusal area ms cs ≡ Some e) × (exit �
 -- as many bytes as the header, so many entries at their longest, and the count
 abbrev pub space_for : ℕ → ℕ → ℕ
 space_for members commands = commands * (7 + serial_bytes) + (members + 7)
+
+-- a number of bytes, if an area can have so many
+abbrev pub addressable : ℕ → Option ℕ
+addressable n = if nat_lt n (2 ^ 64) then Some n else None
 
 -- With that much space a valid chain and well-formed commands are refused only for their number: the 65,536th entry.
 abbrev pub EnoughSpace : Type 0

@@ -1,7 +1,7 @@
 //! A whole list at once.
 
-ghost use Rattle.std.specs.Prelude.{◌≡◌, ◌^◌, if◌then◌else◌, Some, None, nat_lt};
-ghost use Rattle.archive.specs.Lists.{Wrote, space_for, EnoughSpace};
+ghost use Rattle.std.specs.Prelude.{◌≡◌};
+ghost use Rattle.archive.specs.Lists.{Wrote, space_for, addressable, EnoughSpace};
 
 use crate::{COUNT_BYTES, HEADER_BYTES, OpenArchive, Refusal, SealedArchive};
 use command::{Command, SERIAL_BYTES};
@@ -37,7 +37,7 @@ impl Error for ListRefusal {}
 /// How many bytes an area needs to have space for the archive of so many members and any so many commands, if that is
 /// a number of bytes that an area can have.
 pub fn space_for(members: usize, commands: usize) -> Option<usize>
-    ensures { result ≡ (if nat_lt (space_for members commands) (2 ^ 64) then Some (space_for members commands) else None) }
+    ensures { result ≡ addressable (space_for members commands) }
 {
     let entries = commands.checked_mul(7 + SERIAL_BYTES)?;
     let ends = members.checked_add(HEADER_BYTES + COUNT_BYTES)?;

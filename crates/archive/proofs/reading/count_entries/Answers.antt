@@ -1,11 +1,12 @@
 use Rattle.std.proofs.Common.{◌≡◌, Err, List, ℕ, ◌+◌, ◌≤◌, true, false, is_some, length, Some, None, Option, sym, ap, ap₂, ◌∙◌, arith}
 use Rattle.std.proofs.lemmas.Bool.{eqb-true, eqb-false}
+use Rattle.std.proofs.lemmas.Bool.Decides.{nat_tests}
 use Rattle.archive.specs.declared.reading.Broken.TheVariants.{Entry as BrokenEntry}
 use Rattle.archive.specs.declared.entries.Entry.{Entry}
 use Rattle.archive.specs.declared.entries.Entries.{Entries}
 use Rattle.archive.specs.Readers.{Gives}
 use Rattle.archive.specs.Reading.{size_of, scan_all, counted_as}
-use Rattle.archive.proofs.Scans.{counted_more, counted_stop, counted_end, given_shorter, gave_none}
+use Rattle.archive.proofs.Scans.{counted_more, counted_stop, counted_end, given_shorter}
 use Rattle.archive.proofs.reading.count_entries.Goals as goal
 
 -- one entry more was counted
@@ -19,8 +20,7 @@ more n s t (Some x) g h = (given_shorter s t x g, counted_more n s t x g)
 -- none was left
 stopped : (s t : Entries) (r : Option Entry) → Gives s r t → is_some r ≡ false
     → (size_of t.rest.now ≡ None) × (t.rest.now ≡ s.rest.now)
-stopped s t None g h = let p = gave_none s t g in (ap size_of p.1 ∙ p.0, p.1)
-stopped s t (Some x) g h = absurd (cc)
+stopped s t r g h = grind (arith, nat_tests)
 
 pub loop-count-preserved : goal.loop-count-preserved
 loop-count-preserved c =
