@@ -20,7 +20,8 @@ pub rule_higher : (lower : Rule) (s : List ℕ) (c : Command) → c.origin ≤ 3
     → once_rule lower s c ≡ keeps s c (lower (below_once s) c)
 rule_higher lower s c k h =
     cond-false (ltb 31 c.origin) _ _ (le-ltb 31 c.origin k)
-    ∙ (cond-false (is_old s c) _ _ (grind (arith, nat_tests)) ∙ cond-false (is_repeat s c) _ _ (grind (arith, nat_tests)))
+    ∙ (cond-false (is_old s c) _ _ (grind (arith, nat_tests))
+    ∙ cond-false (is_repeat s c) _ _ (grind (arith, nat_tests)))
 
 -- 32 serials, then 32 answers, then what is below
 front : (xs ys t : List ℕ) → length xs ≡ 32 → length ys ≡ 32 → length (xs ++ ys) ≡ 64
@@ -56,7 +57,8 @@ serial_read ks t o l h =
 
 below_read : (ks : List (Option Kept)) (t : List ℕ) → length ks ≡ 32 → below_once (memory ks t) ≡ t
 below_read ks t l =
-    drop_front (map kept_serial ks) (map kept_answer ks) t (length-map ks kept_serial ∙ l) (length-map ks kept_answer ∙ l)
+    drop_front (map kept_serial ks) (map kept_answer ks) t (length-map ks kept_serial ∙ l)
+    (length-map ks kept_answer ∙ l)
 
 keeps_is : (ks : List (Option Kept)) (t : List ℕ) (c : Command) (r : List ℕ × ℕ) → length ks ≡ 32 → c.origin ≤ 31
     → keeps (memory ks t) c r

@@ -71,10 +71,7 @@ went lower s c e =
 
 first_three : (u o r : Bool) (s : List ℕ) (x y z : ℕ) (w : List ℕ × ℕ) → (u ≡ false → o ≡ false → r ≡ false → ⊥)
     → (cond u (s, x) (cond o (s, y) (cond r (s, z) w))).0 ≡ s
-first_three true o r s x y z w h = refl
-first_three false true r s x y z w h = refl
-first_three false false true s x y z w h = refl
-first_three false false false s x y z w h = absurd (h refl refl refl)
+first_three u o r s x y z w h = grind (arith, nat_tests)
 
 stayed : (lower : Rule) (s : List ℕ) (c : Command) → goes_lower s c ≡ false → Stayed lower s c
 stayed lower s c e =
@@ -140,9 +137,7 @@ high_same s c d e k h =
 
 -- no kept serial falls
 rises : (kept : ℕ → ℕ) (i j n m : ℕ) → kept i < n → m ≡ cond (eqb i j) n (kept j) → kept j ≤ m
-rises kept i j n m h e =
-    ⊎_elim (λ q. omega (arith, ap kept q, e ∙ cond-true (eqb i j) n (kept j) (eq-eqb i j q)))
-    (λ k. omega (arith, e ∙ cond-false (eqb i j) n (kept j) (ne_eqb i j k))) (cases_eq i j)
+rises kept i j n m h e = grind (arith, nat_tests)
 
 high_later : (lower : Rule) (s : List ℕ) (c d : Command) → Went lower s c → 64 ≤ length s
     → High (once_rule lower s c).0 d → High s d
@@ -182,7 +177,8 @@ passes_once lower s cs c w l =
     (λ e. e)
     (cases_Bool (occurs c (passed lower (once_rule lower s c).0 cs)))
 
-none_twice_acts : (lower : Rule) (s : List ℕ) (cs : List Command) → 64 ≤ length s → none_twice (passed lower s cs) ≡ true
+none_twice_acts : (lower : Rule) (s : List ℕ) (cs : List Command) → 64 ≤ length s
+    → none_twice (passed lower s cs) ≡ true
 none_twice_acts lower s [] l = refl
 none_twice_acts lower s (c ∷ cs) l =
     let tail = passed lower (once_rule lower s c).0 cs in
