@@ -1,7 +1,7 @@
 -- Below once-only each origin and serial acts at most once, and a repeated highest serial gets the same answer.
 use Rattle.std.proofs.Common.{◌≡◌, ℕ, ◌+◌, ◌<◌, ◌≤◌, Bool, true, false, cond, not, eqb, ltb, ◌⊎◌, List, [], ◌∷◌, length, get_or, take, set, replicate, sym, refl, ap, ◌∙◌, inl, inr, ⊎_elim, arith}
 use Rattle.std.proofs.lemmas.List.{length-append, length-set, length-take-le, drop_at, get_or_append_left, get_or-set_other, get_or-take}
-use Rattle.std.proofs.lemmas.Bool.{cases_Bool, cases_eq, cond-true, cond-false, eq-eqb, ne_eqb, or_cases, not_from_false, and_from, false≢true}
+use Rattle.std.proofs.lemmas.Bool.{cases_Bool, cond-true, cond-false, eq-eqb, or_cases, not_from_false, and_from, false≢true}
 use Rattle.std.proofs.lemmas.Bool.Decides.{nat_tests}
 use Rattle.command.specs.declared.Command.{Command}
 use Rattle.machine.specs.Rules.{Rule, after}
@@ -129,11 +129,7 @@ record High (s : List ℕ) (d : Command) : Type 0 where
 
 high_same : (s : List ℕ) (c d : Command) → is_same d c ≡ true → c.origin ≤ 31
     → serial_of s c.origin < c.serial → High s d
-high_same s c d e k h =
-    let o : d.origin ≡ c.origin = grind (arith, nat_tests) in
-    let n : d.serial ≡ c.serial = grind (arith, nat_tests) in
-    let q = ap (serial_of s) o in
-    record { known = omega arith; higher = omega arith }
+high_same s c d e k h = grind (arith, nat_tests)
 
 -- no kept serial falls
 rises : (kept : ℕ → ℕ) (i j n m : ℕ) → kept i < n → m ≡ cond (eqb i j) n (kept j) → kept j ≤ m

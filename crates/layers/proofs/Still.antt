@@ -1,7 +1,7 @@
 -- While frozen nothing below changes.
-use Rattle.std.proofs.Common.{◌≡◌, ℕ, Bool, true, false, cond, not, List, [], ◌∷◌, sym, refl, ◌∙◌, arith}
+use Rattle.std.proofs.Common.{◌≡◌, ℕ, Bool, true, false, cond, not, List, [], ◌∷◌, refl, ◌∙◌, arith}
 use Rattle.std.proofs.lemmas.Bool.Decides.{nat_tests}
-use Rattle.std.proofs.lemmas.Bool.{and_parts, not-true, true≢false, false≢true}
+use Rattle.std.proofs.lemmas.Bool.{and_parts, not-true}
 use Rattle.machine.specs.Rules.{Rule}
 use Rattle.layers.specs.Freezing.{is_frozen, below_freeze, freezes, thaws, freeze_rule, no_thaw, Still, FrozenBelow}
 
