@@ -10,8 +10,8 @@ use Rattle.archive.specs.declared.writing.Refusal.TheVariants.{Full}
 use Rattle.archive.specs.Layout.{header, entry, most}
 use Rattle.archive.specs.Writing.{answer, has_room, entry_size, begin_refusal, add_refusal}
 
-pub begin_taken : (area ms : List ℕ) (n : ℕ) → valid_chain ms ≡ true → n ≡ length (header ms) → has_room area 0 n ≡ true
-    → begin_refusal area ms ≡ None
+pub begin_taken : (area ms : List ℕ) (n : ℕ) → valid_chain ms ≡ true → n ≡ length (header ms)
+    → has_room area 0 n ≡ true → begin_refusal area ms ≡ None
 begin_taken area ms n p e q = grind (arith, nat_tests)
 
 pub add_taken : (area : List ℕ) (o : OpenArchive) (c : Command) (n : ℕ) → well_formed c ≡ true → o.count < most

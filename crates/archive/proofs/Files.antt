@@ -25,7 +25,8 @@ passed : (a b c : Bool) (d : Option Broken) → cond a (Some Mark) (cond b (cond
     → (a ≡ false) × (b ≡ true) × (c ≡ true) × (d ≡ None)
 passed a b c d h = grind (arith, nat_tests)
 
-counted : (f : List ℕ) (cs : List Command) (o : Option ℕ) → or_count f cs o ≡ None → (o ≡ None) × (has_count f cs ≡ true)
+counted : (f : List ℕ) (cs : List Command) (o : Option ℕ) → or_count f cs o ≡ None
+    → (o ≡ None) × (has_count f cs ≡ true)
 counted f cs (Some i) e = absurd (cc)
 counted f cs None e = (refl, none_is (has_count f cs) _ e)
   where
@@ -154,7 +155,8 @@ read_back f b e =
     record {
       laid = sym (three_parts f fits long)
           ∙ ap₂ (λ (xs ys : List ℕ). xs ++ (ys ++ tail))
-          (front_header f fits long (ap (take 4) ((starts_is Decides-eqb f mark (has_mark f) refl).0 p.1))) (sym w.bytes)
+          (front_header f fits long (ap (take 4) ((starts_is Decides-eqb f mark (has_mark f) refl).0 p.1)))
+          (sym w.bytes)
           ∙ ap (λ (xs : List ℕ). header (members_of f) ++ (entries cs ++ xs)) (sym count);
       chain = c.1;
       formed = w.formed;

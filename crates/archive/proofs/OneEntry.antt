@@ -119,7 +119,13 @@ module _ (v : Option Verb) (bs : List ℕ) (h : Bytes bs) (e : verb_of (get_or b
       rw p.1
       (record {
         formed = ap (λ w. fits w (directed (get_or bs 0 0) (get_or bs 1 0))) e ∙ formed ∙ p.0;
-        sized = record { verb = All-get_or (λ b. b < 256) bs 0 0 (omega arith) h; origin = omega arith; serial = omega arith; a = omega arith; b = omega arith };
+        sized = record {
+          verb = All-get_or (λ b. b < 256) bs 0 0 (omega arith) h;
+          origin = omega arith;
+          serial = omega arith;
+          a = omega arith;
+          b = omega arith;
+        };
         bytes = ap (λ w. entry_as w (directed (get_or bs 0 0) (get_or bs 1 0))) e ∙ written
             ∙ sym (part_two 0 bs (omega arith));
         some = omega arith;

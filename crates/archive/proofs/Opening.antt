@@ -43,7 +43,8 @@ module _ (f : List ℕ) (long : 8 ≤ length f) (marked : has_mark f ≡ true) (
       rest_fault ∙ counted_broken f (scanned f).commands b _ (scanned f).broken (e ∙ ap counted cut_scan)
 
   -- all entries are whole, and so many
-  module _ (n : ℕ) (found : Ok n ≡ counted (scan_all (count_at f) (take (count_at f - start_of f) (drop (start_of f) f))))
+  module _ (n : ℕ)
+      (found : Ok n ≡ counted (scan_all (count_at f) (take (count_at f - start_of f) (drop (start_of f) f))))
       (k : ℕ) (told : k ≡ num (part (count_at f) 2 f)) where
     all : ((scanned f).broken ≡ None) × (n ≡ length (scanned f).commands)
     all = counted_all n _ (scanned f).broken (found ∙ ap counted cut_scan)

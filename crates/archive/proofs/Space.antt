@@ -1,8 +1,8 @@
 -- With space for the longest entries, only their number can be refused.
-use Rattle.std.proofs.Common.{◌≡◌, ℕ, suc, ◌+◌, ◌*◌, ◌≤◌, true, cond, leb, List, [], ◌∷◌, length, Some, None, Option, sym, refl, ap, ◌∙◌, inl, inr, arith}
+use Rattle.std.proofs.Common.{◌≡◌, ℕ, suc, ◌+◌, ◌*◌, ◌≤◌, cond, leb, List, [], ◌∷◌, length, Some, None, Option, sym, refl, ap, ◌∙◌, inl, inr, arith}
 use Rattle.std.specs.List.{AllPass}
 use Rattle.std.proofs.lemmas.Bool.{le-leb, lt-leb, cases_lt, cond-true, cond-false}
-use Rattle.std.proofs.lemmas.List.Elements.{All-head, All-tail}
+use Rattle.archive.proofs.Scans.{formed_rest}
 use Rattle.octets.specs.Areas.{over}
 use Rattle.octets.proofs.Areas.{length_over}
 use Rattle.command.specs.declared.Command.{Command}
@@ -36,16 +36,16 @@ adds (c ∷ cs) area o h l space =
     let short = entry_short (verb_of c.verb) c in
     elim (cases_lt o.count most) [
       | inl less ↦
-          let taken = add_taken area o c (length (entry c)) (All-head (λ d. well_formed d ≡ true) c cs h) less refl
+          let taken = add_taken area o c (length (entry c)) (h 0 c (omega arith)) less refl
           (le-leb (o.at + length (entry c) + 2) (length area) (omega arith)) in
           let kept = length_over area o.at (entry c) (omega arith) in
           let sum : o.count + 1 + length cs ≡ o.count + suc (length cs) = omega arith in
           or_later (Entry (o.count + 1)) (add_refusal area o c) _ taken
-          ∙ adds cs (over area o.at (entry c)) (grown o c) (All-tail (λ d. well_formed d ≡ true) c cs h) (omega arith) (omega arith)
+          ∙ adds cs (over area o.at (entry c)) (grown o c) (formed_rest c cs h) (omega arith) (omega arith)
           ∙ ap (λ (n : ℕ). cond (leb n most) None (Some (Entry (most + 1) Full))) sum
       | inr full ↦
           let last : o.count ≡ most = omega arith in
-          or_refused (Entry (o.count + 1)) (add_refusal area o c) _ Full (add_full area o c (All-head (λ d. well_formed d ≡ true) c cs h) full)
+          or_refused (Entry (o.count + 1)) (add_refusal area o c) _ Full (add_full area o c (h 0 c (omega arith)) full)
           ∙ ap (λ (n : ℕ). Some (Entry (n + 1) Full)) last
           ∙ sym (cond-false _ None _ (lt-leb (o.count + suc (length cs)) most (omega arith)))
     ]

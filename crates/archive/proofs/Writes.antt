@@ -15,7 +15,8 @@ use Rattle.archive.proofs.Runs.{sealing}
 
 -- a call that was taken, by its answer and what it wrote
 pub begin_done : (area ms : List ℕ) (n : ℕ) (exit : List ℕ) → valid_chain ms ≡ true → n ≡ length (header ms)
-    → has_room area 0 n ≡ true → exit ≡ over area 0 (header ms) → Begins area ms exit (Ok (record { at = n; count = 0 }))
+    → has_room area 0 n ≡ true → exit ≡ over area 0 (header ms)
+    → Begins area ms exit (Ok (record { at = n; count = 0 }))
 begin_done area ms n exit v e r w =
     let taken = begin_taken area ms n v e r in
     let now : record { at = n; count = 0 } ≡ begun ms = ap (λ (k : ℕ). record { at = k; count = 0 }) e in

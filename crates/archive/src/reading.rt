@@ -138,6 +138,7 @@ fn count_entries(entries: Entries) -> Result<usize, Broken>
 {
     let mut left = entries;
     let mut count = 0;
+    // Not `count()`, which would not tell what is left after the last whole entry.
     while left.next().is_some() {
         count += 1;
     }

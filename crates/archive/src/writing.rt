@@ -14,7 +14,7 @@ use std::fmt;
 
 /// An archive that is being written: where its next part goes, and how many entries it has. It tells no length,
 /// and it cannot be let go: seal or strike ends it.
-#[derive(PartialEq, Eq, Debug)]
+// Plain numbers and not the area: each call is handed the area, whose owner may read it in between.
 pub struct OpenArchive {
     at: usize,
     count: u16,

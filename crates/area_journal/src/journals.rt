@@ -114,19 +114,7 @@ impl Journal for AreaJournal {
         }
     }
 
-    fn promise(&mut self, ballot: u32) -> bool {
-        self.write(Write::Promise { ballot })
-    }
-
-    fn put(&mut self, slot: u32, ballot: u32, command: &Command) -> bool {
-        self.write(Write::Put {
-            slot,
-            ballot,
-            command: *command,
-        })
-    }
-
-    fn settle(&mut self, command: &Command) -> bool {
-        self.write(Write::Settle { command: *command })
+    fn take(&mut self, write: Write) -> bool {
+        self.write(write)
     }
 }

@@ -47,13 +47,5 @@ pub fn make_write<J: Journal>(journal: &mut J, write: &Write) -> bool
     ensures makes { Writes J.Journal.meaning J.Journal.behind write.now journal.old journal.new result }
     ensures laws { JournalLaws }
 {
-    match write {
-        Write::Promise { ballot } => journal.promise(*ballot),
-        Write::Put {
-            slot,
-            ballot,
-            command,
-        } => journal.put(*slot, *ballot, command),
-        Write::Settle { command } => journal.settle(command),
-    }
+    journal.take(*write)
 }

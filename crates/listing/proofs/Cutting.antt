@@ -1,8 +1,9 @@
 -- Cutting bytes at the first mark gives their first piece, and the rest gives the others.
-use Rattle.std.proofs.Common.{◌≡◌, ◌≢◌, MatchOption, ℕ, get_or, ◌+◌, ◌-◌, ◌<◌, ◌≤◌, false, eqb, ltb, List, [], ◌∷◌, ◌++◌, length, take, drop, Some, None, Option, sym, refl, ap, ◌∙◌, ⊎_elim, arith}
-use Rattle.std.specs.List.{position, position_or_len, onto_first}
+use Rattle.std.proofs.Common.{◌≡◌, ◌≢◌, MatchOption, ℕ, get_or, ◌+◌, ◌-◌, ◌<◌, ◌≤◌, false, eqb, List, [], ◌∷◌, ◌++◌, length, take, drop, Some, None, Option, sym, refl, ap, ◌∙◌, arith}
+use Rattle.std.specs.List.{position, position_or_len}
 use Rattle.std.proofs.lemmas.List.Splits.{slice_split_first}
-use Rattle.std.proofs.lemmas.Bool.{cases_Bool, ltb-true, ltb-false, ne_eqb}
+use Rattle.std.proofs.lemmas.Bool.Decides.{nat_tests}
+use Rattle.std.proofs.lemmas.Bool.{ne_eqb}
 use Rattle.std.proofs.lemmas.List.{take_rest, take_more, take_all}
 use Rattle.std.specs.Borrow.{Bor}
 use Rattle.std.specs.Option.{unwrap_or}
@@ -11,23 +12,14 @@ use Rattle.listing.specs.Pieces.{lines, pieces}
 -- the first mark is at place k, or there is none
 pub piece_some : (m k : ℕ) (bs : List ℕ) → Some k ≡ position (λ b. eqb b m) bs →
     pieces m bs ≡ take k bs ∷ pieces m (take (length bs - (k + 1)) (drop (k + 1) bs))
-piece_some m k bs e =
-    let p = position_or_len (λ b. eqb b m) bs in
-    ⊎_elim (λ t. let f : Some k ≡ Some p = rw t at e in
-    let q : k ≡ p = cc in rw (take_rest, q) (slice_split_first (λ b. eqb b m) bs 0 (ltb-true _ _ t)))
-    (λ t. let f : ◌≡◌ {A = Option ℕ} (Some k) None = rw t at e in cc) (cases_Bool (ltb p (length bs)))
+piece_some m k bs e = grind (arith, nat_tests, slice_split_first, take_rest)
 
 one_piece : (m : ℕ) (bs : List ℕ) → length bs ≤ position_or_len (λ b. eqb b m) bs → pieces m bs ≡ bs ∷ []
 one_piece m [] h = refl
-one_piece m (b ∷ bs) h =
-    ⊎_elim (λ t. absurd (omega (arith, rw t at h)))
-    (λ t. rw (t, one_piece m bs (omega (arith, rw t at h))) refl) (cases_Bool (eqb b m))
+one_piece m (b ∷ bs) h = grind (arith, nat_tests, one_piece m bs)
 
 pub piece_none : (m : ℕ) (bs : List ℕ) → None ≡ position (λ b. eqb b m) bs → pieces m bs ≡ bs ∷ []
-piece_none m bs e =
-    let p = position_or_len (λ b. eqb b m) bs in
-    ⊎_elim (λ t. let f : ◌≡◌ {A = Option ℕ} None (Some p) = rw t at e in cc)
-    (λ t. one_piece m bs (ltb-false _ _ t)) (cases_Bool (ltb p (length bs)))
+piece_none m bs e = grind (arith, nat_tests, one_piece)
 
 -- the lines of a text are the pieces of it without its last end
 pub lines_none : (bs : List ℕ) → length bs < 1 → lines bs ≡ []
@@ -36,11 +28,11 @@ lines_none (b ∷ bs) h = absurd (omega arith)
 
 lines_ended : (bs : List ℕ) → lines (bs ++ 10 ∷ []) ≡ pieces 10 bs
 lines_ended [] = refl
-lines_ended (b ∷ bs) = rw (lines_ended bs) refl
+lines_ended (b ∷ bs) = grind (arith, lines_ended bs)
 
 lines_open : (bs : List ℕ) (b : ℕ) → eqb b 10 ≡ false → lines (bs ++ b ∷ []) ≡ pieces 10 (bs ++ b ∷ [])
-lines_open [] b h = rw h refl
-lines_open (c ∷ bs) b h = rw (lines_open bs b h) refl
+lines_open [] b h = grind (arith, nat_tests)
+lines_open (c ∷ bs) b h = grind (arith, nat_tests, lines_open bs b)
 
 front_last : (bs : List ℕ) → 1 ≤ length bs →
     bs ≡ take (length bs - 1) bs ++ get_or bs (length bs - 1) 0 ∷ []
@@ -59,13 +51,6 @@ lines_stripped text None h n =
     (s ∙ ap (λ b. take k text.now ++ b ∷ []) e))) ∙ ap (pieces 10) (sym s)
 
 -- a text has no more lines than bytes
-length_onto_first : (c : ℕ) (ps : List (List ℕ)) → length (onto_first c ps) ≤ length ps + 1
-length_onto_first c [] = omega arith
-length_onto_first c (p ∷ ps) = omega arith
-
 pub length_lines : (bs : List ℕ) → length (lines bs) ≤ length bs
 length_lines [] = omega arith
-length_lines (b ∷ bs) =
-    let ih = length_lines bs in
-    let o = length_onto_first b (lines bs) in
-    ⊎_elim (λ e. rw e (omega arith)) (λ e. rw e (omega arith)) (cases_Bool (eqb b 10))
+length_lines (b ∷ bs) = grind (arith, nat_tests, length_lines bs)

@@ -1,12 +1,12 @@
 -- A word of digits is read as the number that it writes.
-use Rattle.std.proofs.Common.{◌≡◌, ℕ, ◌<◌, ◌≤◌, true, false, not, eqb, leb, List, [], ◌∷◌, length, get_or, Ok, Err, Option, Result, refl, arith, rules}
+use Rattle.std.proofs.Common.{◌≡◌, ℕ, ◌<◌, ◌≤◌, true, List, [], ◌∷◌, length, get_or, Ok, Err, Option, Result, refl, arith, rules}
 use Rattle.std.specs.List.{list_all}
 use Rattle.std.specs.Str.{all_ascii_digits, IsAscii, IsUtf8}
 use Rattle.std.specs.Char.{is_ascii_digit}
 use Rattle.std.specs.Result.{result_ok}
-use Rattle.std.proofs.lemmas.Bool.{ne_eqb, and_parts, leb-true}
+use Rattle.std.proofs.lemmas.Bool.Decides.{nat_tests}
 use Rattle.std.proofs.lemmas.Str.Parse.{IsNumeralModel, numerals_by_fold}
-use Rattle.std.proofs.lemmas.Str.{IsUtf8-nil, IsUtf8-from_ascii}
+use Rattle.std.proofs.lemmas.Str.{IsUtf8-from_ascii}
 use Rattle.std.proofs.lemmas.Str.Ascii.{IsAscii-nil, IsAscii-cons}
 use Rattle.listing.specs.Numbers.{plain, read_on}
 use Rattle.listing.specs.Answers.{Reads}
@@ -17,15 +17,14 @@ own = numerals_by_fold _ (search rules) read_on (search rules)
 
 all_digits : (w : List ℕ) → all_ascii_digits w ≡ list_all is_ascii_digit w
 all_digits [] = refl
-all_digits (c ∷ cs) = rw (all_digits cs) refl
+all_digits (c ∷ cs) = grind (arith, all_digits cs)
 
 -- a word is plain where all its bytes are digits, if it is not empty and has no needless zero
-pub plain_is : (w : List ℕ) → 1 ≤ length w → (1 < length w → get_or w 0 0 ≡ 48 → ⊥) → plain w ≡ list_all is_ascii_digit w
+pub plain_is : (w : List ℕ) → 1 ≤ length w → (1 < length w → get_or w 0 0 ≡ 48 → ⊥) →
+    plain w ≡ list_all is_ascii_digit w
 plain_is [] h z = absurd (omega arith)
 plain_is (c ∷ []) h z = all_digits (c ∷ [])
-plain_is (c ∷ d ∷ cs) h z =
-    let n : eqb c 48 ≡ false = ne_eqb c 48 (z (omega arith)) in
-    rw n (all_digits (c ∷ d ∷ cs))
+plain_is (c ∷ d ∷ cs) h z = grind (arith, nat_tests, all_digits (c ∷ d ∷ cs))
 
 -- what a type reads a plain word as is what the word is read as
 pub reads_parsed : {A E : Type 0} (gives : List ℕ → Result A E → Type 0) (w : List ℕ) (p : Result A E) (r : Option A) →
@@ -33,15 +32,16 @@ pub reads_parsed : {A E : Type 0} (gives : List ℕ → Result A E → Type 0) (
 reads_parsed gives w (Ok n) r h g e = rw e (h, g)
 reads_parsed gives w (Err f) r h g e = rw e (λ _. (f, g))
 
+-- a plain word is all digits, and not empty
+pub digits_from_plain : (w : List ℕ) → plain w ≡ true → (all_ascii_digits w ≡ true) × (0 < length w)
+digits_from_plain [] h = cc
+digits_from_plain (c ∷ []) h = grind (arith, nat_tests)
+digits_from_plain (c ∷ d ∷ cs) h = grind (arith, nat_tests)
+
 -- a plain word is text
 ascii : (w : List ℕ) → all_ascii_digits w ≡ true → IsAscii w
 ascii [] h = IsAscii-nil
-ascii (c ∷ cs) h =
-    let p = and_parts (is_ascii_digit c) (all_ascii_digits cs) h in
-    let d = leb-true c 57 (and_parts (leb 48 c) (leb c 57) p.0).1 in
-    IsAscii-cons c cs (omega arith) (ascii cs p.1)
+ascii (c ∷ cs) h = grind (arith, nat_tests, IsAscii-cons, ascii cs)
 
 pub utf8_from_plain : (w : List ℕ) → plain w ≡ true → IsUtf8 w
-utf8_from_plain [] h = IsUtf8-nil
-utf8_from_plain (c ∷ []) h = IsUtf8-from_ascii _ (ascii (c ∷ []) h)
-utf8_from_plain (c ∷ d ∷ cs) h = IsUtf8-from_ascii _ (ascii (c ∷ d ∷ cs) (and_parts (not (eqb c 48)) _ h).1)
+utf8_from_plain w h = IsUtf8-from_ascii w (ascii w (digits_from_plain w h).0)

@@ -1,7 +1,6 @@
 -- A line's command by its first word.
-use Rattle.std.proofs.Common.{◌≡◌, ℕ, false, List, [], ◌∷◌, None, codes, sym, ap, ◌∙◌, ⊎_elim, rules}
+use Rattle.std.proofs.Common.{◌≡◌, ℕ, false, List, [], ◌∷◌, None, codes, sym, refl, ap, ◌∙◌, arith, rules}
 use Rattle.std.specs.Str.{bytes_eq, IsUtf8}
-use Rattle.std.proofs.lemmas.Bool.{cond-false, cases_Bool}
 use Rattle.std.proofs.lemmas.Slice.Eq.{bytes_eq-Decides}
 use Rattle.listing.specs.Pieces.{words}
 use Rattle.listing.specs.Reading.{read_entry, entry_of}
@@ -10,22 +9,27 @@ pub entry_none : (line : List ℕ) (all : List (List ℕ)) → all ≡ words lin
 unfolding read_entry
 entry_none line all p q = ap entry_of (sym p ∙ q)
 
-pub entry_from : (line w : List ℕ) (all ws : List (List ℕ)) → all ≡ words line → all ≡ w ∷ ws →
+entry_from : (line w : List ℕ) (all ws : List (List ℕ)) → all ≡ words line → all ≡ w ∷ ws →
     read_entry line ≡ entry_of (w ∷ ws)
 unfolding read_entry
 entry_from line w all ws p q = ap entry_of (sym p ∙ q)
 
-pub differs : (w p : List ℕ) → (w ≡ p → ⊥) → bytes_eq w p ≡ false
-differs w p n = ⊎_elim (λ t. absurd (n ((bytes_eq-Decides w p).0 t))) (λ f. f) (cases_Bool (bytes_eq w p))
+-- the first word, as text, is x
+pub entry_word : (line w t x : List ℕ) (all ws : List (List ℕ)) → all ≡ words line → all ≡ w ∷ ws → t ≡ w → t ≡ x →
+    entry_of (x ∷ ws) ≡ read_entry line
+entry_word line w t x all ws p q s e = ap (λ v. entry_of (v ∷ ws)) (sym e ∙ s) ∙ sym (entry_from line w all ws p q)
 
-pub entry_other : (w : List ℕ) (ws : List (List ℕ)) → (w ≡ codes "noop" → ⊥) → (w ≡ codes "add" → ⊥) →
-    (w ≡ codes "remove" → ⊥) → (w ≡ codes "change" → ⊥) → entry_of (w ∷ ws) ≡ None
-entry_other w ws p q s t =
-    cond-false _ _ _ (differs w _ p) ∙ cond-false _ _ _ (differs w _ q) ∙
-    cond-false _ _ _ (differs w _ s) ∙ cond-false _ _ _ (differs w _ t)
+differs : (w p : List ℕ) → (w ≡ p → ⊥) → bytes_eq w p ≡ false
+differs w p n = grind (arith, bytes_eq-Decides)
 
--- a word that is no text is none of the four
-pub entry_untold : (w : List ℕ) (ws : List (List ℕ)) → (IsUtf8 w → ⊥) → entry_of (w ∷ ws) ≡ None
-entry_untold w ws n =
-    entry_other w ws (λ e. n (rw e (search rules))) (λ e. n (rw e (search rules)))
+pub entry_other : (line w t : List ℕ) (all ws : List (List ℕ)) → all ≡ words line → all ≡ w ∷ ws → t ≡ w →
+    (t ≡ codes "noop" → ⊥) → (t ≡ codes "add" → ⊥) → (t ≡ codes "remove" → ⊥) → (t ≡ codes "change" → ⊥) →
+    None ≡ read_entry line
+entry_other line w t all ws p q s n a r c = rw (entry_from line w all ws p q, ← s) (grind (arith, differs))
+
+-- the first word is no text
+pub entry_untold : (line w : List ℕ) (all ws : List (List ℕ)) → all ≡ words line → all ≡ w ∷ ws → (IsUtf8 w → ⊥) →
+    None ≡ read_entry line
+entry_untold line w all ws p q n =
+    entry_other line w w all ws p q refl (λ e. n (rw e (search rules))) (λ e. n (rw e (search rules)))
     (λ e. n (rw e (search rules))) (λ e. n (rw e (search rules)))

@@ -1,13 +1,14 @@
 -- A list that was written is read back.
-use Rattle.std.proofs.Common.{◌≡◌, ℕ, ◌+◌, ◌≤◌, true, ◌&&◌, eqb, leb, List, [], ◌∷◌, ◌++◌, map, length, Some, None, Ok, Err, cond, Option, Result, codes, sym, refl, ap, ◌∙◌, append_assoc, arith}
+use Rattle.std.proofs.Common.{◌≡◌, ℕ, ◌+◌, ◌≤◌, true, ◌&&◌, leb, List, [], ◌∷◌, ◌++◌, map, length, Some, None, Ok, Err, cond, Option, Result, codes, refl, ap, ◌∙◌, arith}
 use Rattle.std.specs.List.{All}
 use Rattle.std.proofs.lemmas.List.Elements.{All-head, All-tail}
+use Rattle.std.proofs.lemmas.Grind.{common_steps}
 use Rattle.std.proofs.lemmas.Bool.Decides.{nat_tests}
-use Rattle.std.proofs.lemmas.Bool.{and_parts, cond-true, eqb-true, leb-true, false≢true}
+use Rattle.std.proofs.lemmas.Bool.{and_parts, cond-true, leb-true}
 use Rattle.command.specs.declared.Command.{Command}
 use Rattle.command.specs.declared.verbs.Verb.{Verb}
 use Rattle.command.specs.declared.verbs.Verb.TheVariants.{Noop, Add, Remove, Change}
-use Rattle.command.specs.Commands.{Sized, verb_of, well_formed, untold, fits}
+use Rattle.command.specs.Commands.{Sized, verb_of, well_formed, fits}
 use Rattle.command.specs.Members.{valid_chain, founded, different_directors}
 use Rattle.listing.specs.Pieces.{lines}
 use Rattle.listing.specs.Numbers.{decimal_of}
@@ -45,7 +46,7 @@ change_back : (v o s a b : ℕ) → v ≤ max8 → o ≤ max16 → s ≤ max_ser
 unfolding read_entry
 change_back v o s a b hv ho hs ha hb =
     ap entry_of (words_back (codes "change") (v ∷ o ∷ s ∷ a ∷ b ∷ []) refl
-    (omega arith, (omega arith, (omega arith, (omega arith, (omega arith, tt)))))) ∙
+    (omega arith)) ∙
     simp (
       numeral_back max8 v hv (omega arith),
       numeral_back max16 o ho (omega arith),
@@ -54,25 +55,8 @@ change_back v o s a b hv ho hs ha hb =
       numeral_back max16 b hb (omega arith),
     )
 
--- the number of a verb that is no change of the machine's
-verb_noop : (n : ℕ) → verb_of n ≡ Some Noop → n ≡ 0
-verb_noop n h = grind (arith, nat_tests)
-
-verb_add : (n : ℕ) → verb_of n ≡ Some Add → n ≡ 1
-verb_add n h = grind (arith, nat_tests)
-
-verb_remove : (n : ℕ) → verb_of n ≡ Some Remove → n ≡ 2
-verb_remove n h = grind (arith, nat_tests)
-
--- a command whose verb uses no other field has nothing there
-plain_fields : (v w o s a b : ℕ) → v ≡ w → untold (command v o s a b) ≡ true → command w 0 0 a 0 ≡ command v o s a b
-plain_fields v w o s a b e h =
-    let p = and_parts (eqb o 0 && eqb s 0) (eqb b 0) h in
-    let q = and_parts (eqb o 0) (eqb s 0) p.0 in
-    rw (e, eqb-true o 0 q.0, eqb-true s 0 q.1, eqb-true b 0 p.1) refl
-
 line_lacks : (w ns : List ℕ) → lacks 10 w ≡ true → Small ns → lacks 10 (w ++ spaced ns) ≡ true
-line_lacks w ns h s = lacks_append 10 w (spaced ns) h (spaced_lacks ns s)
+line_lacks w ns h s = grind (arith, lacks_append, spaced_lacks)
 
 -- the line of a command is one line, and tells the command
 pub record IsLineOf (l : List ℕ) (c : Command) : Type 0 where
@@ -80,29 +64,20 @@ pub record IsLineOf (l : List ℕ) (c : Command) : Type 0 where
   pub read : read_entry l ≡ Some c
 
 told : (c : Command) → Sized c → (k : Option Verb) → verb_of c.verb ≡ k → fits k c ≡ true → IsLineOf (line_for k c) c
-told c z None e h = absurd (false≢true h)
-told c z (Some Noop) e h =
-    let p = and_parts (untold c) (eqb c.a 0) h in
-    let f = plain_fields c.verb 0 c.origin c.serial c.a c.b (verb_noop _ e) p.0 in
-    record { one = refl; read = noop_back ∙ ap Some (ap (λ x. command 0 0 0 x 0) (sym (eqb-true c.a 0 p.1)) ∙ f) }
-told c z (Some Add) e h =
-    let p = and_parts (untold c) (leb c.a 31) h in
-    let f = plain_fields c.verb 1 c.origin c.serial c.a c.b (verb_add _ e) p.0 in
-    record {
-      one = line_lacks (codes "add") (c.a ∷ []) refl (omega (arith, z.a), tt);
-      read = add_back c.a (omega (arith, z.a)) ∙ ap Some f;
-    }
-told c z (Some Remove) e h =
-    let p = and_parts (untold c) (leb c.a 31) h in
-    let f = plain_fields c.verb 2 c.origin c.serial c.a c.b (verb_remove _ e) p.0 in
-    record {
-      one = line_lacks (codes "remove") (c.a ∷ []) refl (omega (arith, z.a), tt);
-      read = remove_back c.a (omega (arith, z.a)) ∙ ap Some f;
-    }
+told c z None e h = cc
+told c z (Some Noop) e h = record { one = refl; read = noop_back ∙ grind (arith, nat_tests) }
+told c z (Some Add) e h = record {
+  one = line_lacks (codes "add") (c.a ∷ []) refl (omega arith, tt);
+  read = add_back c.a (omega arith) ∙ grind (arith, nat_tests);
+}
+told c z (Some Remove) e h = record {
+  one = line_lacks (codes "remove") (c.a ∷ []) refl (omega arith, tt);
+  read = remove_back c.a (omega arith) ∙ grind (arith, nat_tests);
+}
 told c z (Some Change) e h = record {
-  one = line_lacks (codes "change") (c.verb ∷ c.origin ∷ c.serial ∷ c.a ∷ c.b ∷ []) refl
-      (omega arith, (omega arith, (omega arith, (omega arith, (omega arith, tt)))));
-  read = change_back c.verb c.origin c.serial c.a c.b (omega arith) (omega arith) (omega arith) (omega arith) (omega arith);
+  one = line_lacks (codes "change") (c.verb ∷ c.origin ∷ c.serial ∷ c.a ∷ c.b ∷ []) refl (omega arith);
+  read = change_back c.verb c.origin c.serial c.a c.b (omega arith) (omega arith) (omega arith) (omega arith)
+      (omega arith);
 }
 
 entry_told : (c : Command) → Listable c → IsLineOf (line_of c) c
@@ -111,13 +86,11 @@ entry_told c h = told c h.sized (verb_of c.verb) refl h.well
 -- the chain
 small : (ms : List ℕ) → different_directors ms ≡ true → Small ms
 small [] h = tt
-small (m ∷ ms) h = let p = director_first m ms h in (omega arith, small ms p.1)
+small (m ∷ ms) h = grind (arith, director_first, small ms)
 
 directors_back : (ms : List ℕ) → different_directors ms ≡ true → directors (map decimal_of ms) ≡ Some ms
 directors_back [] h = refl
-directors_back (m ∷ ms) h =
-    let p = director_first m ms h in
-    rw (numeral_back max16 m (omega arith) (omega arith), directors_back ms p.1) refl
+directors_back (m ∷ ms) h = grind (arith, director_first, numeral_back max16 m, directors_back ms)
 
 some_back : (ms : List ℕ) → 1 ≤ length ms → different_directors ms ≡ true → some_directors (map decimal_of ms) ≡ Some ms
 some_back [] l h = absurd (omega arith)
@@ -132,7 +105,7 @@ chain_lacks ms h = line_lacks (codes "chain") ms refl (small ms h)
 
 -- the lines, and the whole
 lines_back : (l rest : List ℕ) → lacks 10 l ≡ true → lines (ending l ++ rest) ≡ l ∷ lines rest
-lines_back l rest h = ap lines (append_assoc l (10 ∷ []) rest) ∙ lines_first l rest h
+lines_back l rest h = grind (arith, common_steps, lines_first)
 
 entries_back : (n : ℕ) (cs : List Command) → All Listable cs → entries_from n (lines (entries_text cs)) ≡ Ok cs
 entries_back n [] h = refl

@@ -7,8 +7,8 @@ ghost use Rattle.listing.specs.Pieces.{lines, words};
 use std::marker::Model;
 
 /// The pieces that are still to come: the lines of a text, or the words of a line.
-// A type of its own and no `split` of the slice: a `split` has the type of its closure in its own, so each function
-// that goes on with the words would have to be generic, and could not name the words that are left.
+// A type of its own and not what the slice's `split` gives: that type has a closure's in it, so each function that goes
+// on with the words would have to be generic, and its clauses could not name the words that are left as they do here.
 #[derive(Drop)]
 pub(crate) struct Pieces<'a> {
     rest: Option<&'a [u8]>,

@@ -25,7 +25,7 @@ pub fn read_entry(line: &[u8]) -> Option<Command>
     }
 }
 
-// The director that follows an add or a remove, whose verb has this number.
+// The director that follows an add or a remove. Its verb is a number, as in a command, which may have any content.
 fn read_member(mut words: Pieces, verb: u8) -> Option<Command>
     ensures { result ≡ member_of verb words.entry }
 {

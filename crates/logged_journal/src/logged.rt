@@ -1,6 +1,5 @@
 //! A journal that keeps a list of its writes.
 
-ghost use Rattle.journal.specs.Meaning.{Writes};
 ghost use Rattle.journal.specs.declared.writes.Write.{Write};
 ghost use Rattle.logged_journal.specs.Layers.{log_of, is_complete, log_behind, Over, Exact};
 ghost use Rattle.std.specs.Prelude.{◌≡◌, MatchResult};
@@ -8,7 +7,7 @@ ghost use Rattle.std.proofs.Common.{rules};
 
 use crate::logs::Log;
 use command::Command;
-use journal::{Entry, Journal, Write, make_write};
+use journal::{Entry, Journal, Write};
 use std::alloc::{AllocFailed, Global};
 
 /// Any journal, with a list of the writes that it took since this layer was laid over it. The layer takes memory for a
@@ -62,17 +61,6 @@ impl<J: Journal> LoggedJournal<J> {
         let LoggedJournal { lower, log: _ } = self;
         lower
     }
-
-    // Makes a write below, and keeps it if it was taken there.
-    fn write(&mut self, write: Write) -> bool
-        ensures { Writes (λ j. J.Journal.meaning j.lower) log_behind write self.old self.new result }
-    {
-        let taken = make_write(&mut self.lower, &write);
-        if taken {
-            self.log.keep(write);
-        }
-        taken
-    }
 }
 
 impl<J: Journal> Journal for LoggedJournal<J> {
@@ -102,19 +90,12 @@ impl<J: Journal> Journal for LoggedJournal<J> {
         self.lower.open(slot)
     }
 
-    fn promise(&mut self, ballot: u32) -> bool {
-        self.write(Write::Promise { ballot })
-    }
-
-    fn put(&mut self, slot: u32, ballot: u32, command: &Command) -> bool {
-        self.write(Write::Put {
-            slot,
-            ballot,
-            command: *command,
-        })
-    }
-
-    fn settle(&mut self, command: &Command) -> bool {
-        self.write(Write::Settle { command: *command })
+    // Makes a write below, and keeps it if it was taken there.
+    fn take(&mut self, write: Write) -> bool {
+        let taken = self.lower.take(write);
+        if taken {
+            self.log.keep(write);
+        }
+        taken
     }
 }

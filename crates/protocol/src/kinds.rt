@@ -73,6 +73,7 @@ impl Error for UnknownKind {}
 #[cfg(test)]
 mod tests {
     use crate::{Kind, UnknownKind};
+    use std::test::Fail;
 
     #[test]
     fn kinds_have_the_numbers_1_to_6(rt: HostRuntime) {
@@ -86,5 +87,12 @@ mod tests {
     fn other_numbers_are_no_kind(rt: HostRuntime) {
         assert_eq!(rt; Kind::try_from(0), Err(UnknownKind(0)));
         assert_eq!(rt; Kind::try_from(7), Err(UnknownKind(7)));
+    }
+
+    #[test]
+    fn a_kind_is_told_by_its_name(rt: HostRuntime) -> Result<(), Fail> {
+        let told = format!(in rt.alloc(); "{}; {}", Kind::Acked, UnknownKind(9))?;
+        assert_eq!(rt; told.as_str(), "ACKED; no kind of message has number 9");
+        Ok(())
     }
 }

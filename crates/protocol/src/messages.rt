@@ -1,7 +1,7 @@
 //! Messages, acknowledgements and replies.
 
 use command::{Command, DirectorSet};
-use journal::Entry;
+use journal::{Entry, SPAN};
 
 /// A message from one director to another, with any content. Which fields count depends on the kind; the others are
 /// sent as 0 or blank and are ignored.
@@ -16,10 +16,11 @@ pub struct Message {
     pub command: Command,
     pub set: DirectorSet,
     pub upto: u32,
-    pub entries: [Entry; 8],
+    pub entries: [Entry; SPAN],
 }
 
 /// Who is known to have put a slot's command, and with which ballot. The blank one has ballot 0 and nobody.
+// No Option: 0 is the ballot of blank entries too, and so ballots are compared as they are.
 #[derive(Clone, Copy, PartialEq, Eq, Debug)]
 pub struct Acknowledged {
     pub ballot: u32,

@@ -66,11 +66,19 @@ impl Error for Refusal {}
 #[cfg(test)]
 mod tests {
     use crate::Refusal;
+    use std::test::Fail;
 
     #[test]
     fn refusals_have_the_numbers_1_to_11(rt: HostRuntime) {
         assert_eq!(rt; Refusal::ShortTable.number(), 1);
         assert_eq!(rt; Refusal::Stale.number(), 4);
         assert_eq!(rt; Refusal::InvalidDirector.number(), 11);
+    }
+
+    #[test]
+    fn a_refusal_tells_why(rt: HostRuntime) -> Result<(), Fail> {
+        let told = format!(in rt.alloc(); "{}", Refusal::LineFull)?;
+        assert_eq!(rt; told.as_str(), "the line holds 16 commands");
+        Ok(())
     }
 }

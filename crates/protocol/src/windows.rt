@@ -3,12 +3,14 @@
 ghost use Rattle.std.specs.Prelude.{◌≡◌, ◌<◌, length};
 ghost use Rattle.journal.specs.Windows.{span, place_of, element_at, put_at};
 
+use journal::SPAN;
+
 /// The place of a slot among the eight.
 pub fn place_of(slot: u32) -> usize
     ensures place { result ≡ place_of slot }
     ensures within { result < span }
 {
-    (slot % 8) as usize
+    slot as usize % SPAN
 }
 
 /// A window over eight places, in which slot n has place n mod 8. The rule is the same for every kind of element.

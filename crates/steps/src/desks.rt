@@ -17,5 +17,5 @@ pub struct Desk<'d, 'j, 'm, J: Journal, M> {
     pub machine: &'m mut M,
     pub chains: Chains,
     pub answer: Option<u16>,
-    ghost ready: { Tells (view memory.now).founding (J.meaning journal.now).settled chains },
+    pub ghost ready: { Tells (view memory.now).founding (J.meaning journal.now).settled chains },
 }

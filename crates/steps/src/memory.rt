@@ -1,9 +1,11 @@
 //! What a director remembers between calls, but for its journal.
 
+ghost use Rattle.journal.specs.Windows.{span};
+ghost use Rattle.protocol.specs.Refusing.{line_room};
 ghost use Rattle.std.specs.Prelude.{◌≡◌, ◌≤◌, length, vec_len, vec_capacity};
 
 use command::{Chain, Command, DirectorSet};
-use journal::Entry;
+use journal::{Entry, SPAN};
 use protocol::Acknowledged;
 
 /// A director follows, or it stands as a leader with those that promised its ballot and what they reported.
@@ -12,7 +14,7 @@ pub enum Role {
     Following,
     Standing {
         promisers: DirectorSet,
-        reports: [Entry; 8],
+        reports: [Entry; SPAN],
     },
 }
 
@@ -24,9 +26,9 @@ pub struct Memory {
     pub founding: Chain,
     pub role: Role,
     pub line: Vec<Command>,
-    pub acks: [Acknowledged; 8],
+    pub acks: [Acknowledged; SPAN],
     ghost director: { number ≤ 31 },
-    ghost few: { vec_len line ≤ 16 },
-    ghost room: { 16 ≤ vec_capacity line },
-    ghost eight: { length acks ≡ 8 },
+    ghost few: { vec_len line ≤ line_room },
+    ghost room: { line_room ≤ vec_capacity line },
+    ghost eight: { length acks ≡ span },
 }

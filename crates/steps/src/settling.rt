@@ -45,6 +45,7 @@ impl<J: Journal, M: Machine> Desk<'_, '_, '_, J, M> {
         let journal: &J = self.journal;
         let memory: &Memory = self.memory;
         let slot = journal.settled_count() + 1;
+        // By its place: a `Window` asks for places that may be written, and here they are only read.
         let acks = memory.acks[place_of(slot)];
         journal.open(slot).ballot == acks.ballot && self.chains.get(slot).is_enough(acks.set)
     }

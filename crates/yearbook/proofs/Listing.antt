@@ -1,5 +1,5 @@
 -- What is known of a list that was read from a text, and of the text that is written of a file.
-use Rattle.std.proofs.Common.{◌≡◌, ℕ, ◌+◌, Bool, true, false, cond, leb, List, [], ◌∷◌, length, Some, None, Ok, Err, Option, Result, sym, refl, ap, ◌∙◌, subst, arith}
+use Rattle.std.proofs.Common.{◌≡◌, ℕ, ◌+◌, Bool, true, false, cond, leb, List, [], ◌∷◌, length, Some, None, Ok, Err, Option, Result, sym, refl, ap, ◌∙◌, subst}
 use Rattle.std.specs.List.{All, AllPass}
 use Rattle.command.specs.declared.Command.{Command}
 use Rattle.command.specs.Commands.{well_formed, Sized}
@@ -41,7 +41,8 @@ judged_formed n (Some c) rest cs h e = go (well_formed c) refl rest h e
 
 entries_formed : (ls : List (List ℕ)) (n : ℕ) (cs : List Command) → entries_from n ls ≡ Ok cs
     → AllPass well_formed cs
-entries_formed [] n cs e = let same : [] ≡ cs = cc in subst (AllPass well_formed) same (All-nil (λ d. well_formed d ≡ true))
+entries_formed [] n cs e =
+    let same : [] ≡ cs = cc in subst (AllPass well_formed) same (All-nil (λ d. well_formed d ≡ true))
 entries_formed (l ∷ ls) n cs e =
     judged_formed n (read_entry l) (entries_from (n + 1) ls) cs (λ ds q. entries_formed ls (n + 1) ds q) e
 

@@ -57,6 +57,8 @@ impl fmt::Display for ReadFault {
 
 impl Error for ReadFault {}
 
+// Written out and not derived: clauses name the fault that a `?` makes.
+
 impl From<listing::Fault> for SealFault {
     ghost from_gives = { λ e r. r ≡ List e };
 

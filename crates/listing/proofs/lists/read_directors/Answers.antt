@@ -22,5 +22,7 @@ loop-word-preserved c =
     let some : Some c.in_ok-number.number ≡ c.read_number.result = search rules in
     let b : c.unwrap_or.result ≡ as_byte c.in_ok-number.number = search rules in (
       omega (arith, ap length s, simp length-append at (ap length c.in_ok-push.ensures.items)),
-      whole.directors_more c.in-Some.word.now _ _ _ _ _ _ _ (some ∙ number_is 16 c.in-Some.word.now _ c.read_number.ensures) s b c.in_ok-push.ensures.items c.loop-word.invariant.1,
+      whole.directors_more c.in-Some.word.now _ _ _ _ _ _ _
+          (some ∙ number_is 16 c.in-Some.word.now _ c.read_number.ensures) s b c.in_ok-push.ensures.items
+          c.loop-word.invariant.1,
     )

@@ -4,10 +4,7 @@ use Rattle.listing.proofs.Written.{spaced_more, spaced_all}
 use Rattle.listing.proofs.writes.write_chain.Goals as goal
 
 pub loop-member-preserved : goal.loop-member-preserved
-loop-member-preserved c =
-    spaced_more c.args.members.now _ _ _ c.loop-member.member-index c.loop-member-test.true
-    (omega (arith, c.type_inv.members c.loop-member.member-index))
-    c.loop-member.invariant c.in_ok-write.ensures.bytes
+loop-member-preserved c = grind (arith, spaced_more, c.type_inv.members)
 
 pub returns-clause-written : goal.returns-clause-written
 unfolding encode

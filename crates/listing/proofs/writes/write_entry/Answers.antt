@@ -1,7 +1,7 @@
-use Rattle.std.proofs.Common.{◌≡◌, ◌++◌, ℕ, List, Some, None, codes, ap, arith, rules}
+use Rattle.std.proofs.Common.{◌≡◌, ◌++◌, ℕ, List, Some, None, codes, refl, ap, arith, rules}
 use Rattle.command.specs.declared.verbs.Verb.TheVariants.{Add, Remove, Change}
 use Rattle.command.specs.Commands.{verb_of}
-use Rattle.listing.proofs.Written.{shown_one, shown_five, line_written}
+use Rattle.listing.proofs.Written.{shown_one, line_written, change_written}
 use Rattle.listing.proofs.writes.write_entry.Goals.{in-Ok+in-Change-1, in-Err-1}
 use Rattle.listing.proofs.writes.write_entry.Goals as goal
 
@@ -21,8 +21,12 @@ pub returns-in_ok-writeln-in-Ok-Change-clause-written : goal.returns-in_ok-write
 returns-in_ok-writeln-in-Ok-Change-clause-written c =
     let n = c.args.command.now in
     elim c.in-Ok-Change-1.branch [
-      | in-Ok+in-Change-1 w ↦ let v : verb_of n.verb ≡ Some Change = search rules in line_written n (Some Change) _ _ _ v c.in_ok-writeln-in-Ok-Change.ensures.bytes (ap (λ (x : List ℕ). codes "change" ++ x)
-          (shown_five n.verb n.origin n.serial n.a n.b (omega arith) (omega arith) (omega arith) (omega arith) (omega arith)))
-      | in-Err-1 w ↦ let v : verb_of n.verb ≡ None = search rules in line_written n None _ _ _ v c.in_ok-writeln-in-Ok-Change.ensures.bytes (ap (λ (x : List ℕ). codes "change" ++ x)
-          (shown_five n.verb n.origin n.serial n.a n.b (omega arith) (omega arith) (omega arith) (omega arith) (omega arith)))
+      | in-Ok+in-Change-1 w ↦
+          let v : verb_of n.verb ≡ Some Change = search rules in
+          change_written n (Some Change) _ _ v refl c.in_ok-writeln-in-Ok-Change.ensures.bytes
+          (omega arith) (omega arith) (omega arith) (omega arith) (omega arith)
+      | in-Err-1 w ↦
+          let v : verb_of n.verb ≡ None = search rules in
+          change_written n None _ _ v refl c.in_ok-writeln-in-Ok-Change.ensures.bytes
+          (omega arith) (omega arith) (omega arith) (omega arith) (omega arith)
     ]

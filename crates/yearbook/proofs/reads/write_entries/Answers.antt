@@ -21,6 +21,7 @@ loop-entry-preserved-in-Continue-1 c =
 pub returns : goal.returns
 returns c =
     let out = string_bytes c.loop-entry.text in
-    sym (append-nil out)
-    ∙ ap (λ (xs : List ℕ). out ++ xs) (sym (lines_end c.loop-entry.entry-iterator c.next.new.self c.in-None.ensures.steps))
-    ∙ c.loop-entry.invariant.2 ∙ ap (λ e. string_bytes c.args.text.now ++ lines_left e) c.into_iter-entry-iterator.ensures.into_iter_gives
+    let none = lines_end c.loop-entry.entry-iterator c.next.new.self c.in-None.ensures.steps in
+    sym (append-nil out) ∙ ap (λ (xs : List ℕ). out ++ xs) (sym none)
+    ∙ c.loop-entry.invariant.2
+    ∙ ap (λ e. string_bytes c.args.text.now ++ lines_left e) c.into_iter-entry-iterator.ensures.into_iter_gives

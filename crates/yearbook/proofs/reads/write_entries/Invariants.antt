@@ -7,4 +7,5 @@ abbrev pub invariant-loop-entry : goal.invariant-loop-entry
 invariant-loop-entry l =
     (goal.iterator-loop-entry).can_next l.entry-iterator
     × (goal.iterator-loop-entry).is_finite l.entry-iterator
-    × (string_bytes l.text ++ lines_left l.entry-iterator ≡ string_bytes l.initial.text ++ lines_left l.initial.entry-iterator)
+    × (string_bytes l.text ++ lines_left l.entry-iterator ≡ string_bytes l.initial.text
+    ++ lines_left l.initial.entry-iterator)

@@ -8,7 +8,8 @@ use Rattle.yearbook.proofs.Listing.{overfull}
 use Rattle.yearbook.proofs.seals.file_of.Goals as goal
 
 -- the space that was asked for
-space-is : {E : Type 0} (n m : ℕ) (o : Option ℕ) (e : E) (b : Bool) → Ok n ≡ ok_or o e → o ≡ cond b (Some m) None → n ≡ m
+space-is : {E : Type 0} (n m : ℕ) (o : Option ℕ) (e : E) (b : Bool) → Ok n ≡ ok_or o e → o ≡ cond b (Some m) None
+    → n ≡ m
 space-is n m None e b p q = absurd (cc)
 space-is n m (Some k) e true p q = cc
 space-is n m (Some k) e false p q = absurd (cc)

@@ -10,6 +10,7 @@ returns c =
     elim c.if-text-lt1.branch [
       | in-empty w ↦ rw w.rest-is (sym (lines_none c.args.text.now (omega arith)))
       | in_default w ↦
-          let s = strip_suffix_is Decides-eqb c.args.text.now (10 ∷ []) w.strip_suffix.result w.strip_suffix.ensures.cases in
+          let s = strip_suffix_is Decides-eqb c.args.text.now (10 ∷ []) w.strip_suffix.result
+          w.strip_suffix.ensures.cases in
           rw (w.rest-is, w.unwrap_or.ensures) (sym (lines_stripped c.args.text w.strip_suffix.result (omega arith) s))
     ]

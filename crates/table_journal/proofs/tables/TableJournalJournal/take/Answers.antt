@@ -3,7 +3,7 @@ use Rattle.std.proofs.lemmas.Grind.{common_steps}
 use Rattle.journal.specs.Meaning.{after}
 use Rattle.table_journal.specs.Tables.{table_meaning}
 use Rattle.table_journal.proofs.Writes.{settle_fits, writes_taken, writes_untaken}
-use Rattle.table_journal.proofs.tables.TableJournal.write.Goals as goal
+use Rattle.table_journal.proofs.tables.TableJournalJournal.take.Goals as goal
 
 pub push_reserved-requires : goal.push_reserved-requires
 push_reserved-requires c =

@@ -1,10 +1,10 @@
 use Rattle.std.proofs.Common.{sym, ◌∙◌}
 use Rattle.logged_journal.proofs.Logging.{shows_taken, shows_untaken}
-use Rattle.logged_journal.proofs.logged.LoggedJournal.write.Goals as goal
+use Rattle.logged_journal.proofs.logged.LoggedJournalJournal.take.Goals as goal
 
 pub returns-then-taken : goal.returns-then-taken
 returns-then-taken g c =
-    let told = c.make_write-taken.ensures.makes in
+    let told = c.take-taken.ensures in
     record {
       answer = told.answer;
       after = told.after;
@@ -15,7 +15,7 @@ returns-then-taken g c =
 
 pub returns-else-taken : goal.returns-else-taken
 returns-else-taken g c =
-    let told = c.make_write-taken.ensures.makes in
+    let told = c.take-taken.ensures in
     record {
       answer = told.answer;
       after = told.after;
