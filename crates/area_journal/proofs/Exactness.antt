@@ -1,18 +1,17 @@
 -- An area is accepted exactly where it holds the layout of a meaning.
-use Rattle.std.proofs.Common.{◌≡◌, ℕ, ◌+◌, ◌<◌, ◌≤◌, true, eqb, ◌⊎◌, List, [], ◌∷◌, ◌++◌, length, get_or, sym, refl, ap, ◌∙◌, subst, ap₂, inl, inr, arith}
+use Rattle.std.proofs.Common.{◌≡◌, ℕ, ◌+◌, ◌<◌, ◌≤◌, true, eqb, ◌⊎◌, List, [], ◌∷◌, ◌++◌, length, get_or, sym, refl, ap, ◌∙◌, ap₂, inl, inr, arith}
 use Rattle.std.specs.Str.{bytes_eq}
 use Rattle.std.proofs.lemmas.List.FromFn.{get_or-map-range_with_len}
 use Rattle.std.proofs.ByRecursion.{All-get_or}
 use Rattle.std.proofs.lemmas.Slice.Eq.{bytes_eq-Decides}
 use Rattle.std.proofs.lemmas.List.{take_all, append_assoc}
-use Rattle.std.proofs.lemmas.Bool.{and_parts, eqb-true, ne_eqb, or_cases, cond-false}
+use Rattle.std.proofs.lemmas.Bool.{and_parts, eqb-true, ne_eqb, or_cases}
 use Rattle.octets.specs.Areas.{part}
 use Rattle.octets.specs.Numbers.{le, num}
 use Rattle.octets.proofs.Areas.{part_two}
 use Rattle.octets.proofs.Parts.{part_join, part_length, part_bytes, le_part, num_part}
 use Rattle.octets.proofs.Numbers.{Bytes}
 use Rattle.command.specs.Commands.{well_formed, serial_bytes, Sized}
-use Rattle.journal.specs.declared.writes.Entry.{Entry}
 use Rattle.journal.specs.Meaning.{noop, blank}
 use Rattle.area_journal.specs.Layout.{place_at, record_at, place_bytes, record_bytes, command_bytes, entry_bytes, blank_bytes}
 use Rattle.area_journal.specs.Layout.{command_of, slot_of, entry_of}
@@ -78,26 +77,16 @@ module _ (c l p i : ℕ) (bs : List ℕ) (h : Bytes bs) (size : length bs ≡ pl
   laid_place_is g =
       elim (or_cases (bytes_eq bs blank_bytes) (is_held c l p i bs) g) [
         | inl e ↦
-            subst
-            (λ (xs : List ℕ). (xs ≡ place_laid p i (entry_of xs)) × ((entry_of xs ≡ blank)
-            ⊎ Entered c l (slot_at p i) (entry_of xs)))
-            (sym ((bytes_eq-Decides bs blank_bytes).0 e)) (refl, inl refl)
+            rw ((bytes_eq-Decides bs blank_bytes).0 e) (refl, inl refl)
         | inr e ↦
             let n = slot_of bs in
             let b = (entry_of bs).ballot in
             let d = (entry_of bs).command in
             let k = held_parts c l p i n b (record_good (part 8 record_bytes bs)) e in
-            let place = k.place in
-            let above = k.above in
-            let window = k.window in
-            let some = k.some in
             let slot : n ≡ slot_at p i = omega arith in
-            let most = k.within in
             let q = entry_same k.good in (
-              q.1 ∙ ap (λ (x : ℕ). entry_bytes x b d) slot
-                  ∙ sym (cond-false (eqb b 0) blank_bytes (entry_bytes (slot_at p i) b d)
-                  (ne_eqb b 0 (λ z. omega arith))),
-              inr (record { within = omega arith; some = some; most = k.most; command = q.0 }),
+              rw (ne_eqb b 0 (λ z. omega arith), ← slot) q.1,
+              inr (record { within = omega arith; some = k.some; most = k.most; command = q.0 }),
             )
       ]
 
@@ -145,11 +134,8 @@ module _ (area : List ℕ) (h : Bytes area) (s : Sound area) where
         capacity = refl;
         promised = sym (le_part area h 0 4 (omega arith));
         count = sym (le_part area h 4 4 (omega arith)) ∙ ap (le 4) (sym count);
-        places = λ i l.
-            (placed i l).0 ∙ ap₂ (λ (k : ℕ) (e : Entry). place_laid k i e) (sym count) (sym (places_is i l));
-        records = λ i l.
-            let m : i < p = omega arith in
-            (stored i m).1 ∙ ap command_bytes (sym (settled_is i m));
+        places = λ i l. rw (count, places_is i l) (placed i l).0;
+        records = λ i l. rw (settled_is i (omega arith)) (stored i (omega arith)).1;
       }
 
   pub sensible : Sensible (meaning_of area)
@@ -160,14 +146,6 @@ module _ (area : List ℕ) (h : Bytes area) (s : Sound area) where
       record {
         within = within_of area s.long s.held;
         promised = num_part area h 0 4 (omega arith);
-        entries = λ i l.
-            subst
-            (λ (k : ℕ). (get_or (meaning_of area).places i blank ≡ blank)
-            ⊎ Entered (capacity_of area) (promised_of area) (slot_at k i) (get_or (meaning_of area).places i blank))
-            (sym count)
-            (subst (λ (e : Entry). (e ≡ blank) ⊎ Entered (capacity_of area) (promised_of area) (slot_at p i) e)
-            (sym (places_is i l)) (placed i l).1);
-        commands = λ i l.
-            let m : i < p = omega arith in
-            subst Stored (sym (settled_is i m)) (stored i m).0;
+        entries = λ i l. rw (count, places_is i l) (placed i l).1;
+        commands = λ i l. rw (settled_is i (omega arith)) (stored i (omega arith)).0;
       }

@@ -1,12 +1,12 @@
 -- An area that holds the layout of a meaning is accepted, and means it.
-use Rattle.std.proofs.Common.{◌≡◌, ℕ, ◌^◌, ◌<◌, ◌≤◌, true, eqb, ◌⊎◌, List, get_or, sym, refl, ap, ◌∙◌, subst, inl, inr, arith}
+use Rattle.std.proofs.Common.{◌≡◌, ℕ, ◌^◌, ◌<◌, ◌≤◌, true, ◌⊎◌, List, get_or, sym, refl, ap, ◌∙◌, inl, inr, arith}
 use Rattle.std.proofs.lemmas.List.FromFn.{fill_by_all}
-use Rattle.std.proofs.lemmas.Bool.{ne_eqb, cond-false}
+use Rattle.std.proofs.lemmas.Bool.{ne_eqb}
 use Rattle.octets.specs.Numbers.{num}
 use Rattle.octets.proofs.Numbers.{Bytes, num_le}
 use Rattle.journal.specs.declared.writes.Entry.{Entry}
 use Rattle.journal.specs.Meaning.{Meaning, settled_count, noop, blank}
-use Rattle.area_journal.specs.Layout.{command_bytes, entry_bytes, blank_bytes, command_of, entry_of}
+use Rattle.area_journal.specs.Layout.{command_bytes, command_of, entry_of}
 use Rattle.area_journal.specs.Reading.{promised_of, count_of, command_in, entry_in, meaning_of}
 use Rattle.area_journal.specs.Opening.{place_good}
 use Rattle.area_journal.specs.Exactness.{slot_at, place_laid, Laid, Entered, Sensible, Exact}
@@ -19,32 +19,18 @@ use Rattle.area_journal.proofs.Writes.{good_place, good_record}
 place_back : (c l p i : ℕ) (e : Entry) → i < 8 → l < 256 ^ 4 → c ≤ 60000
     → (e ≡ blank) ⊎ Entered c l (slot_at p i) e
     → (place_good c l p i (place_laid p i e) ≡ true) × (entry_of (place_laid p i e) ≡ e)
-place_back c l p i e low small few (inl q) =
-    subst (λ (x : Entry). (place_good c l p i (place_laid p i x) ≡ true) × (entry_of (place_laid p i x) ≡ x)) (sym q)
-    (blank_good c l p i, refl)
+place_back c l p i e low small few (inl q) = rw q (blank_good c l p i, refl)
 place_back c l p i e low small few (inr q) =
     let n = slot_at p i in
     let b = e.ballot in
     let d = e.command in
-    let within = q.within in
     let some = q.some in
     let most = q.most in
-    let same : place_laid p i e ≡ entry_bytes n b d =
-    cond-false (eqb b 0) blank_bytes (entry_bytes n b d) (ne_eqb b 0 (λ z. omega arith)) in
-    let sized = q.command.sized in (
-      ap (place_good c l p i) same
-          ∙ entry_good n b d (omega arith) (omega arith) sized c l p i
-          (record {
-            place = omega arith;
-            above = omega arith;
-            window = omega arith;
-            within = within;
-            some = some;
-            most = most;
-            good = q.command.formed;
-          }),
-      ap entry_of same ∙ entry_read n b d (omega arith) (omega arith) sized,
-    )
+    let within = q.within in
+    let formed = q.command.formed in
+    let sized = q.command.sized in
+    rw (ne_eqb b 0 (λ z. omega arith))
+    (entry_good n b d (omega arith) (omega arith) sized c l p i (grind arith), entry_read n b d (omega arith) (omega arith) sized)
 
 module _ (area : List ℕ) (m : Meaning) (laid : Laid area m) (k : Sensible m) where
   count : count_of area ≡ settled_count m

@@ -16,7 +16,7 @@ pub(crate) const PROMISED_AT: usize = 0;
 pub(crate) const COUNT_AT: usize = 4;
 
 // How many bytes the record of a command takes: verb, 00, origin, serial, a, b.
-pub(crate) const RECORD_BYTES: usize = 8 + size_of::<Serial>();
+pub(crate) const RECORD_BYTES: usize = 8 + SERIAL_BYTES;
 
 // How many bytes an open entry takes: slot, ballot, command.
 pub(crate) const PLACE_BYTES: usize = 8 + RECORD_BYTES;
