@@ -40,12 +40,12 @@ LINES = {
                                             r'None => Err\(|else \{\n *return Err\(|Err\(_\) => Err\(|Some\(fault\) => Err',
     '3 a loop that counts or indexes by hand': r'^ *for \w+ in [\w.()]+\.\.|\+= 1;|\.enumerate\(\)|^ *while (?!let)',
     '3 a loop over a cursor by while let': r'^ *while let',
-    '4 a comparison, conversion or text by hand': r'fn same_bytes|fn (number|answer)\(self\)|fn of\(number: u8\)|String::from_str\(|'
-                                                  r'format!\(in \w+;|const NO_MEMORY|u16::MAX as u64|as (u8|u16|Serial)[;)]',
+    '4 a comparison, conversion or text by hand': r'fn same_bytes|String::from_str\(|format!\(in \w+;|const NO_MEMORY|'
+                                                  r'u16::MAX as u64|\bas (u8|u16|Serial)[;)]',
     '5 a function that only tells a proof something': r'fn know_widths',
     '6 a buffer or a list with a length beside it': r'^ *(pub(\(crate\))? )?(count|room|length|at): \w+,|-> \(\[u8; 7\], usize\)|'
                                                     r'^ *(pub )?places: &\'a mut \[T\],',
-    '7 a switch on a step': r'^ *match (table|job|write|\(job, second\)) \{|enum Table|\bdyn |: fn\(',
+    '7 a switch on a step': r'^ *match (table|job|write|\(job, second\)) \{|enum Table\b|\bdyn |: fn\(',
 }
 
 

@@ -1,10 +1,10 @@
 -- The whole file: it is found whole exactly where it is the layout of what the reader tells.
 use Rattle.std.proofs.Common.{◌≡◌, ℕ, ◌+◌, ◌^◌, ◌<◌, ◌≤◌, Bool, true, false, cond, ltb, leb, List, [], ◌∷◌, ◌++◌, length, get_or, take, drop, Some, None, Option, Fits, w8, sym, refl, ap, ◌∙◌, ap₂, append_assoc, arith}
-use Rattle.std.proofs.lemmas.Bool.{and_parts, and_from, le-leb, leb-true, eqb-true, eq-eqb, le-ltb, ltb-false, cond-true}
+use Rattle.std.proofs.lemmas.Bool.{and_parts, leb-true, eqb-true, eq-eqb, ltb-false, cond-true}
 use Rattle.std.proofs.ByRecursion.{All-drop, All-take}
 use Rattle.std.proofs.lemmas.List.{length-append, length-drop, length-take-le, take_at, drop_at, take-append-drop, take-take}
 use Rattle.std.proofs.lemmas.Slice.Eq.{starts_is}
-use Rattle.std.proofs.lemmas.Bool.Decides.{Decides-eqb}
+use Rattle.std.proofs.lemmas.Bool.Decides.{Decides-eqb, nat_tests}
 use Rattle.octets.specs.Numbers.{le, num}
 use Rattle.octets.proofs.Areas.{part_more}
 use Rattle.octets.proofs.Numbers.{Bytes, num_le, le_num, num_fits}
@@ -17,38 +17,29 @@ use Rattle.archive.specs.Reading.{start_of, count_at, body_of}
 use Rattle.archive.specs.Readers.{Exact}
 use Rattle.octets.proofs.Parts.{part_join, area_bytes}
 use Rattle.archive.proofs.Scans.{scan_entries, whole}
-use Rattle.archive.proofs.OneEntry.{some_none}
 use Rattle.archive.specs.declared.reading.Broken.{Broken}
 use Rattle.archive.specs.declared.reading.Broken.TheVariants.{Mark, Chain, Count}
 
 -- where nothing is broken, each test passed
-record Passed (a b c : Bool) (d : Option Broken) : Type 0 where
-  long : a ≡ false
-  marked : b ≡ true
-  chained : c ≡ true
-  listed : d ≡ None
-
 passed : (a b c : Bool) (d : Option Broken) → cond a (Some Mark) (cond b (cond c d (Some Chain)) (Some Mark)) ≡ None
-    → Passed a b c d
-passed true b c d e = absurd (some_none e)
-passed false false c d e = absurd (some_none e)
-passed false true false d e = absurd (some_none e)
-passed false true true d e = record { long = refl; marked = refl; chained = refl; listed = e }
+    → (a ≡ false) × (b ≡ true) × (c ≡ true) × (d ≡ None)
+passed a b c d h = grind (arith, nat_tests)
 
-counted : (f : List ℕ) (cs : List Command) (o : Option ℕ) → or_count f cs o ≡ None → (o ≡ None) × (has_count f cs ≡ true)
-counted f cs (Some i) e = absurd (some_none e)
-counted f cs None e = (refl, go (has_count f cs) e)
+counted : (f : List ℕ) (cs : List Command) (o : Option ℕ) → or_count f cs o ≡ None
+    → (o ≡ None) × (has_count f cs ≡ true)
+counted f cs (Some i) e = absurd (cc)
+counted f cs None e = (refl, none_is (has_count f cs) _ e)
   where
-    go : (b : Bool) → cond b None (Some (Count (count_at f))) ≡ None → b ≡ true
-    go true e = refl
-    go false e = absurd (some_none e)
+    none_is : (b : Bool) (x : Broken) → cond b None (Some x) ≡ None → b ≡ true
+    none_is b x e = grind (arith, nat_tests)
 
--- the first broken part, by what the tests found
-pub fault_by : (f : List ℕ) (a b c : Bool) → ltb (length f) 8 ≡ a → has_mark f ≡ b → has_chain f ≡ c
-    → fault f ≡ cond a (Some Mark)
-    (cond b (cond c (or_count f (scanned f).commands (scanned f).broken) (Some Chain)) (Some Mark))
-fault_by f a b c p q r = λ j. cond (p j) (Some Mark)
-    (cond (q j) (cond (r j) (or_count f (scanned f).commands (scanned f).broken) (Some Chain)) (Some Mark))
+pub chained : (f : List ℕ) → start_of f ≤ count_at f → valid_chain (members_of f) ≡ true → has_chain f ≡ true
+chained f fits valid = grind (arith, nat_tests)
+
+-- where mark and chain are whole, the first broken part is among entries and count
+pub fault_after : (f : List ℕ) → 8 ≤ length f → has_mark f ≡ true → has_chain f ≡ true
+    → fault f ≡ or_count f (scanned f).commands (scanned f).broken
+fault_after f long marked chain = grind (arith, nat_tests)
 
 -- ---- what is written is found whole
 
@@ -107,16 +98,12 @@ written f ms cs a =
     let scan : scanned file ≡ found cs None =
     ap (scan_all (count_at file)) (laid_body ms (entries cs) (le 2 (length cs)) refl)
     ∙ scan_entries cs (count_at file) a.formed a.sized in
-    let chain : has_chain file ≡ true =
-    and_from (leb (start_of file) (count_at file)) (valid_chain (members_of file))
-    (le-leb (start_of file) (count_at file) (omega arith)) (ap valid_chain members ∙ a.chain) in
+    let chain = chained file (omega arith) (ap valid_chain members ∙ a.chain) in
     let count : has_count file cs ≡ true =
     eq-eqb (num (drop (count_at file) file)) (length cs)
     (ap num (laid_tail ms (entries cs) (le 2 (length cs)) refl) ∙ num_le 2 (length cs) (omega (arith, a.few))) in
-    let all : fault file ≡ None =
-    fault_by file false true true (le-ltb (length file) 8 (omega arith)) refl chain
-    ∙ (ap (λ s. or_count file s.commands s.broken) scan
-    ∙ cond-true (has_count file cs) None (Some (Count (count_at file))) count) in
+    let all = fault_after file (omega arith) refl chain ∙ ap (λ s. or_count file s.commands s.broken) scan
+    ∙ cond-true (has_count file cs) None (Some (Count (count_at file))) count in
     rw same (all, members, ap (λ s. s.commands) scan)
 
 -- ---- what is found whole was written
@@ -151,10 +138,10 @@ unfolding layout
 read_back f b e =
     let cs = (scanned f).commands in
     let p = passed (ltb (length f) 8) (has_mark f) (has_chain f) _ e in
-    let q = counted f cs (scanned f).broken p.listed in
-    let c = and_parts (leb (start_of f) (count_at f)) (valid_chain (members_of f)) p.chained in
+    let q = counted f cs (scanned f).broken p.3 in
+    let c = and_parts (leb (start_of f) (count_at f)) (valid_chain (members_of f)) p.2 in
     let fits = leb-true (start_of f) (count_at f) c.0 in
-    let long = ltb-false (length f) 8 p.long in
+    let long = ltb-false (length f) 8 p.0 in
     let bytes-body = All-drop (λ x. x < 256) (start_of f) (take (count_at f) f)
     (All-take (λ x. x < 256) (count_at f) f b) in
     let w = whole (count_at f) (body_of f) bytes-body q.0 in
@@ -168,7 +155,8 @@ read_back f b e =
     record {
       laid = sym (three_parts f fits long)
           ∙ ap₂ (λ (xs ys : List ℕ). xs ++ (ys ++ tail))
-          (front_header f fits long (ap (take 4) ((starts_is Decides-eqb f mark (has_mark f) refl).0 p.marked))) (sym w.bytes)
+          (front_header f fits long (ap (take 4) ((starts_is Decides-eqb f mark (has_mark f) refl).0 p.1)))
+          (sym w.bytes)
           ∙ ap (λ (xs : List ℕ). header (members_of f) ++ (entries cs ++ xs)) (sym count);
       chain = c.1;
       formed = w.formed;

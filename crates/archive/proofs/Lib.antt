@@ -4,6 +4,7 @@ pub mod Scans
 pub mod Files
 pub mod Runs
 pub mod Calls
+pub mod Writes
 pub mod Walks
 pub mod Opening
 pub mod WholeLists

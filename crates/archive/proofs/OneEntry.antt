@@ -1,7 +1,8 @@
 -- One entry: what is written of a command is read again as that command, and what is read is written again the same.
-use Rattle.std.proofs.Common.{◌≡◌, ℕ, ◌+◌, ◌<◌, ◌≤◌, true, cond, ◌&&◌, eqb, leb, List, [], ◌∷◌, ◌++◌, length, get_or, take, Some, None, Option, sym, refl, ap, ◌∙◌, subst, inl, inr, arith}
-use Rattle.std.proofs.lemmas.Bool.{cond-true, cond_both, cases_Bool, eqb-true, leb-true, le-leb, and_parts, cond-false}
+use Rattle.std.proofs.Common.{◌≡◌, ℕ, ◌+◌, ◌<◌, ◌≤◌, true, cond, ◌&&◌, eqb, leb, List, [], ◌∷◌, ◌++◌, length, get_or, take, Some, None, Option, sym, refl, ap, ◌∙◌, subst, arith}
+use Rattle.std.proofs.lemmas.Bool.{cond-true, eqb-true, leb-true, and_parts}
 use Rattle.std.proofs.ByRecursion.{All-get_or}
+use Rattle.std.proofs.lemmas.Bool.Decides.{nat_tests}
 use Rattle.octets.specs.Areas.{part}
 use Rattle.octets.specs.Numbers.{le, num}
 use Rattle.octets.proofs.Numbers.{Bytes, num_le}
@@ -14,59 +15,50 @@ use Rattle.command.specs.Commands.{verb_of, untold, fits, well_formed, serial_by
 use Rattle.archive.specs.Layout.{entry_as, entry}
 use Rattle.archive.specs.Reading.{size_as, within, size_of, directed, command_as, command_of}
 
--- which numbers a kind of verb has
-abbrev Is : Option Verb → ℕ → Type 0
-Is None n = Unit {0}
-Is (Some Noop) n = n ≡ 0
-Is (Some Add) n = n ≡ 1
-Is (Some Remove) n = n ≡ 2
-Is (Some Change) n = 16 ≤ n
-
-kind : (n : ℕ) → Is (verb_of n) n
-kind n =
-    cond_both (eqb n 0) (Some Noop) _ (λ v. Is v n) (λ e. eqb-true n 0 e)
-    (λ _. cond_both (eqb n 1) (Some Add) _ (λ v. Is v n) (λ e. eqb-true n 1 e)
-    (λ _. cond_both (eqb n 2) (Some Remove) _ (λ v. Is v n) (λ e. eqb-true n 2 e)
-    (λ _. cond_both (leb 16 n) (Some Change) None (λ v. Is v n) (λ e. leb-true 16 n e) (λ _. tt))))
-
-kind_of_verb : (n : ℕ) (v : Option Verb) → verb_of n ≡ v → Is v n
-kind_of_verb n v e = subst (λ w. Is w n) e (kind n)
+-- the numbers of the verbs that have just one
+noop_number : (n : ℕ) → verb_of n ≡ Some Noop → n ≡ 0
+noop_number n e = grind (arith, nat_tests)
 
 -- commands are the same where their fields are
 command_same_is : (c d : Command) → c.verb ≡ d.verb → c.origin ≡ d.origin → c.serial ≡ d.serial → c.a ≡ d.a
     → c.b ≡ d.b → c ≡ d
 command_same_is c d p q r s t = λ i. record { verb = p i; origin = q i; serial = r i; a = s i; b = t i }
 
-pub record Untold (c : Command) : Type 0 where
-  pub origin : c.origin ≡ 0
-  pub serial : c.serial ≡ 0
-  pub b : c.b ≡ 0
-
-untold_parts : (c : Command) → untold c ≡ true → Untold c
-untold_parts c h =
-    let p = and_parts (eqb c.origin 0 && eqb c.serial 0) (eqb c.b 0) h in
-    let q = and_parts (eqb c.origin 0) (eqb c.serial 0) p.0 in
-    record { origin = eqb-true _ 0 q.0; serial = eqb-true _ 0 q.1; b = eqb-true _ 0 p.1 }
-
-pub none_some : {A : Type 0} {x : A} → None ≡ Some x → ⊥
-none_some e = cc
-
-pub some_none : {A : Type 0} {x : A} → Some x ≡ None → ⊥
-some_none e = cc
+untold_parts : (c : Command) → untold c ≡ true → (c.origin ≡ 0) × (c.serial ≡ 0) × (c.b ≡ 0)
+untold_parts c h = grind (arith, nat_tests)
 
 -- enough bytes are left
 within_all : (s left : ℕ) → s ≤ left → within left (Some s) ≡ Some s
-within_all s left h = cond-true (leb s left) (Some s) None (le-leb s left h)
+within_all s left h = grind (arith, nat_tests)
 
--- an entry of this kind, read again with anything after it
-pub record Reread (v : Option Verb) (c : Command) (t : List ℕ) : Type 0 where
-  pub size : size_of (entry_as v c ++ t) ≡ Some (length (entry_as v c))
-  pub same : command_of (entry_as v c ++ t) ≡ c
-  pub some : 1 ≤ length (entry_as v c)
+-- an entry, read again with anything after it
+pub record Reread (es : List ℕ) (c : Command) (t : List ℕ) : Type 0 where
+  pub size : size_of (es ++ t) ≡ Some (length es)
+  pub same : command_of (es ++ t) ≡ c
+  pub some : 1 ≤ length es
+
+-- an add or a remove
+named : (v : Option Verb) (c : Command) (t : List ℕ) → verb_of c.verb ≡ v
+    → ((a : ℕ) → size_as v a ≡ cond (leb a 31) (Some 2) None)
+    → ((xs : List ℕ) → command_as v xs ≡ directed (get_or xs 0 0) (get_or xs 1 0))
+    → entry_as v c ≡ c.verb ∷ c.a ∷ [] → (untold c && leb c.a 31) ≡ true → Reread (entry_as v c) c t
+named v c t e size same written h =
+    let p = and_parts (untold c) (leb c.a 31) h in
+    let u = untold_parts c p.0 in
+    let bs = c.verb ∷ c.a ∷ t in
+    subst (λ es. Reread es c t) (sym written)
+    (record {
+      size = ap (λ v. within (length bs) (size_as v c.a)) e
+          ∙ ap (within (length bs)) (size c.a ∙ cond-true (leb c.a 31) (Some 2) None p.1)
+          ∙ within_all 2 (length bs) (omega arith);
+      same = ap (λ v. command_as v bs) e ∙ same bs
+          ∙ command_same_is _ c refl (sym u.0) (sym u.1) refl (sym u.2);
+      some = omega arith;
+    })
 
 reread_as : (v : Option Verb) (c : Command) (t : List ℕ) → verb_of c.verb ≡ v → fits v c ≡ true → Sized c
-    → Reread v c t
-reread_as None c t e h s = absurd (mathlib.Core.Bool.false≢true h)
+    → Reread (entry_as v c) c t
+reread_as None c t e h s = absurd (cc)
 reread_as (Some Noop) c t e h s =
     let p = and_parts (untold c) (eqb c.a 0) h in
     let u = untold_parts c p.0 in
@@ -74,32 +66,11 @@ reread_as (Some Noop) c t e h s =
     record {
       size = ap (λ v. within (length bs) (size_as v (get_or bs 1 0))) e ∙ within_all 1 (length bs) (omega arith);
       same = ap (λ v. command_as v bs) e
-          ∙ command_same_is _ c (sym (kind_of_verb c.verb (Some Noop) e)) (sym u.origin) (sym u.serial)
-          (sym (eqb-true _ 0 p.1)) (sym u.b);
+          ∙ command_same_is _ c (sym (noop_number c.verb e)) (sym u.0) (sym u.1) (sym (eqb-true _ 0 p.1)) (sym u.2);
       some = omega arith;
     }
-reread_as (Some Add) c t e h s =
-    let p = and_parts (untold c) (leb c.a 31) h in
-    let u = untold_parts c p.0 in
-    let bs = c.verb ∷ c.a ∷ t in
-    record {
-      size = ap (λ v. within (length bs) (size_as v c.a)) e
-          ∙ ap (within (length bs)) (cond-true (leb c.a 31) (Some 2) None p.1) ∙ within_all 2 (length bs) (omega arith);
-      same = ap (λ v. command_as v bs) e
-          ∙ command_same_is _ c refl (sym u.origin) (sym u.serial) refl (sym u.b);
-      some = omega arith;
-    }
-reread_as (Some Remove) c t e h s =
-    let p = and_parts (untold c) (leb c.a 31) h in
-    let u = untold_parts c p.0 in
-    let bs = c.verb ∷ c.a ∷ t in
-    record {
-      size = ap (λ v. within (length bs) (size_as v c.a)) e
-          ∙ ap (within (length bs)) (cond-true (leb c.a 31) (Some 2) None p.1) ∙ within_all 2 (length bs) (omega arith);
-      same = ap (λ v. command_as v bs) e
-          ∙ command_same_is _ c refl (sym u.origin) (sym u.serial) refl (sym u.b);
-      some = omega arith;
-    }
+reread_as (Some Add) c t e h s = named (Some Add) c t e (λ a. refl) (λ xs. refl) refl h
+reread_as (Some Remove) c t e h s = named (Some Remove) c t e (λ a. refl) (λ xs. refl) refl h
 reread_as (Some Change) c t e h s =
     let bs = entry_as (Some Change) c ++ t in
     record {
@@ -111,26 +82,22 @@ reread_as (Some Change) c t e h s =
       some = omega arith;
     }
 
-pub reread : (c : Command) (t : List ℕ) → well_formed c ≡ true → Sized c → Reread (verb_of c.verb) c t
+pub reread : (c : Command) (t : List ℕ) → well_formed c ≡ true → Sized c → Reread (entry c) c t
 reread c t h s = reread_as (verb_of c.verb) c t refl h s
 
 -- what an entry's size tells where there is one
 pub within_some : (s left n : ℕ) → within left (Some s) ≡ Some n → (n ≡ s) × (s ≤ left)
-within_some s left n h =
-    elim (cases_Bool (leb s left)) [
-      | inl y ↦ (let e = sym (cond-true (leb s left) (Some s) None y) ∙ h in cc, leb-true s left y)
-      | inr z ↦ absurd (none_some (sym (cond-false (leb s left) (Some s) None z) ∙ h))
-    ]
+within_some s left n h = grind (arith, nat_tests)
 
 -- the same of an add or a remove
 pub directed_some : (a left n : ℕ) → within left (cond (leb a 31) (Some 2) None) ≡ Some n
     → (leb a 31 ≡ true) × (n ≡ 2) × (2 ≤ left)
-directed_some a left n h =
-    elim (cases_Bool (leb a 31)) [
-      | inl y ↦
-          let w = within_some 2 left n (ap (within left) (sym (cond-true (leb a 31) (Some 2) None y)) ∙ h) in (y, w.0, w.1)
-      | inr z ↦ absurd (none_some (ap (within left) (sym (cond-false (leb a 31) (Some 2) None z)) ∙ h))
-    ]
+directed_some a left n h = grind (arith, nat_tests)
+
+-- an entry has at least one byte, and lies within those that are left
+pub sized_part : (v : Option Verb) (a left size : ℕ) → within left (size_as v a) ≡ Some size
+    → (1 ≤ size) × (size ≤ left)
+sized_part v a left size h = grind (arith, nat_tests)
 
 -- a command as it was read is such as a list may hold, and is written as it was read
 pub record Rewritten (c : Command) (bs : List ℕ) (size : ℕ) : Type 0 where
@@ -142,7 +109,6 @@ pub record Rewritten (c : Command) (bs : List ℕ) (size : ℕ) : Type 0 where
 
 -- an entry of two bytes, the verb and a director
 module _ (v : Option Verb) (bs : List ℕ) (h : Bytes bs) (e : verb_of (get_or bs 0 0) ≡ v)
-    (few : get_or bs 0 0 < 256)
     (formed : fits v (directed (get_or bs 0 0) (get_or bs 1 0)) ≡ leb (get_or bs 1 0) 31)
     (written : entry_as v (directed (get_or bs 0 0) (get_or bs 1 0)) ≡ get_or bs 0 0 ∷ get_or bs 1 0 ∷ []) where
   two_bytes : (size : ℕ) → within (length bs) (cond (leb (get_or bs 1 0) 31) (Some 2) None) ≡ Some size
@@ -153,7 +119,13 @@ module _ (v : Option Verb) (bs : List ℕ) (h : Bytes bs) (e : verb_of (get_or b
       rw p.1
       (record {
         formed = ap (λ w. fits w (directed (get_or bs 0 0) (get_or bs 1 0))) e ∙ formed ∙ p.0;
-        sized = record { verb = few; origin = omega arith; serial = omega arith; a = omega arith; b = omega arith };
+        sized = record {
+          verb = All-get_or (λ b. b < 256) bs 0 0 (omega arith) h;
+          origin = omega arith;
+          serial = omega arith;
+          a = omega arith;
+          b = omega arith;
+        };
         bytes = ap (λ w. entry_as w (directed (get_or bs 0 0) (get_or bs 1 0))) e ∙ written
             ∙ sym (part_two 0 bs (omega arith));
         some = omega arith;
@@ -162,7 +134,7 @@ module _ (v : Option Verb) (bs : List ℕ) (h : Bytes bs) (e : verb_of (get_or b
 
 rewritten_as : (v : Option Verb) (bs : List ℕ) (size : ℕ) → Bytes bs → verb_of (get_or bs 0 0) ≡ v
     → within (length bs) (size_as v (get_or bs 1 0)) ≡ Some size → Rewritten (command_as v bs) bs size
-rewritten_as None bs size h e some = absurd (none_some some)
+rewritten_as None bs size h e some = absurd (cc)
 rewritten_as (Some Noop) bs size h e some =
     let w = within_some 1 (length bs) size some in
     rw w.0
@@ -175,16 +147,14 @@ rewritten_as (Some Noop) bs size h e some =
         a = omega arith;
         b = omega arith;
       };
-      bytes = ap (λ (x : ℕ). x ∷ []) (sym (kind_of_verb (get_or bs 0 0) (Some Noop) e)) ∙ sym (part_more 0 0 bs w.1);
+      bytes = ap (λ (x : ℕ). x ∷ []) (sym (noop_number (get_or bs 0 0) e)) ∙ sym (part_more 0 0 bs w.1);
       some = omega arith;
       fits = w.1;
     })
 rewritten_as (Some Add) bs size h e some =
-    let n = kind_of_verb (get_or bs 0 0) (Some Add) e in
-    two_bytes (Some Add) bs h e (omega arith) refl refl size some
+    two_bytes (Some Add) bs h e refl refl size some
 rewritten_as (Some Remove) bs size h e some =
-    let n = kind_of_verb (get_or bs 0 0) (Some Remove) e in
-    two_bytes (Some Remove) bs h e (omega arith) refl refl size some
+    two_bytes (Some Remove) bs h e refl refl size some
 rewritten_as (Some Change) bs size h e some =
     let w = within_some (7 + serial_bytes) (length bs) size some in
     let c = command_as (Some Change) bs in
@@ -215,12 +185,3 @@ rewritten_as (Some Change) bs size h e some =
 
 pub rewritten : (bs : List ℕ) (size : ℕ) → Bytes bs → size_of bs ≡ Some size → Rewritten (command_of bs) bs size
 rewritten bs size h some = rewritten_as (verb_of (get_or bs 0 0)) bs size h refl some
-
--- an entry has at least one byte, and lies within those that are left
-pub sized_part : (v : Option Verb) (a left size : ℕ) → within left (size_as v a) ≡ Some size
-    → (1 ≤ size) × (size ≤ left)
-sized_part None a left size h = absurd (none_some h)
-sized_part (Some Noop) a left size h = let w = within_some 1 left size h in (omega arith, omega arith)
-sized_part (Some Add) a left size h = let p = directed_some a left size h in (omega arith, omega arith)
-sized_part (Some Remove) a left size h = let p = directed_some a left size h in (omega arith, omega arith)
-sized_part (Some Change) a left size h = let w = within_some 11 left size h in (omega arith, omega arith)

@@ -1,8 +1,8 @@
 -- Opening a file, by what its tests found.
-use Rattle.std.proofs.Common.{◌≡◌, ℕ, ◌-◌, ◌≤◌, true, false, cond, leb, List, length, get_or, take, drop, Some, None, Ok, Err, Option, sym, refl, ap, ◌∙◌, arith}
+use Rattle.std.proofs.Common.{◌≡◌, ℕ, ◌-◌, ◌≤◌, true, cond, List, length, get_or, take, drop, Some, None, Ok, Err, Option, sym, refl, ap, ◌∙◌, arith}
 use Rattle.std.proofs.lemmas.List.{take_all, length-drop}
 use Rattle.std.proofs.lemmas.Slice.{between_is}
-use Rattle.std.proofs.lemmas.Bool.{le-ltb, le-leb, and_from, eq-eqb, ne_eqb}
+use Rattle.std.proofs.lemmas.Bool.{eq-eqb, ne_eqb}
 use Rattle.octets.specs.Areas.{part}
 use Rattle.octets.specs.Numbers.{num}
 use Rattle.command.specs.declared.Command.{Command}
@@ -11,7 +11,7 @@ use Rattle.archive.specs.declared.reading.Broken.{Broken}
 use Rattle.archive.specs.declared.reading.Broken.TheVariants.{Count}
 use Rattle.archive.specs.Reading.{fault, has_mark, has_count, or_count, scanned, scan_all, counted, counted_as, members_of, start_of}
 use Rattle.archive.specs.Reading.{count_at}
-use Rattle.archive.proofs.Files.{fault_by}
+use Rattle.archive.proofs.Files.{chained, fault_after}
 
 -- what a count tells of the entries
 counted_all : (n k : ℕ) (o : Option ℕ) → Ok n ≡ counted_as k o → (o ≡ None) × (n ≡ k)
@@ -34,10 +34,7 @@ module _ (f : List ℕ) (long : 8 ≤ length f) (marked : has_mark f ≡ true) (
   cut_scan = ap (scan_all (count_at f)) (between_is f (start_of f) (count_at f))
 
   rest_fault : fault f ≡ or_count f (scanned f).commands (scanned f).broken
-  rest_fault =
-      fault_by f false true true (le-ltb (length f) 8 long) marked
-      (and_from (leb (start_of f) (count_at f)) _ (le-leb (start_of f) (count_at f) near)
-      (ap valid_chain (sym members_cut) ∙ valid))
+  rest_fault = fault_after f long marked (chained f near (ap valid_chain (sym members_cut) ∙ valid))
 
   pub fault_entry : (b : Broken)
       → Err b ≡ counted (scan_all (count_at f) (take (count_at f - start_of f) (drop (start_of f) f)))
@@ -46,7 +43,8 @@ module _ (f : List ℕ) (long : 8 ≤ length f) (marked : has_mark f ≡ true) (
       rest_fault ∙ counted_broken f (scanned f).commands b _ (scanned f).broken (e ∙ ap counted cut_scan)
 
   -- all entries are whole, and so many
-  module _ (n : ℕ) (found : Ok n ≡ counted (scan_all (count_at f) (take (count_at f - start_of f) (drop (start_of f) f))))
+  module _ (n : ℕ)
+      (found : Ok n ≡ counted (scan_all (count_at f) (take (count_at f - start_of f) (drop (start_of f) f))))
       (k : ℕ) (told : k ≡ num (part (count_at f) 2 f)) where
     all : ((scanned f).broken ≡ None) × (n ≡ length (scanned f).commands)
     all = counted_all n _ (scanned f).broken (found ∙ ap counted cut_scan)

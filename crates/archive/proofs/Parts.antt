@@ -8,7 +8,7 @@ use Rattle.command.specs.declared.verbs.Verb.{Verb}
 use Rattle.command.specs.declared.verbs.Verb.TheVariants.{Noop, Add, Remove, Change}
 use Rattle.command.specs.Commands.{verb_of, serial_bytes}
 use Rattle.archive.specs.Reading.{size_as, within, size_of, directed, command_as, command_of, decoded_as, decoded}
-use Rattle.archive.proofs.OneEntry.{none_some, within_some, directed_some}
+use Rattle.archive.proofs.OneEntry.{within_some, directed_some}
 
 part_take : (i n m : ℕ) (bs : List ℕ) → i + n ≤ m → part i n (take m bs) ≡ part i n bs
 part_take i n m bs h =
@@ -42,7 +42,7 @@ module _ (bs : List ℕ) (k : ℕ) where
 
   told_as : (v : Option Verb) → verb_of (get_or bs 0 0) ≡ v → within (length bs) (size_as v (get_or bs 1 0)) ≡ Some k
       → decoded (take k bs) ≡ Some (command_as v bs)
-  told_as None e h = absurd (none_some h)
+  told_as None e h = absurd (cc)
   told_as (Some Noop) e h =
       let w = within_some 1 (length bs) k h in
       let first = get_or-take k bs 0 0 (omega arith) in

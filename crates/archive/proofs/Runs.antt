@@ -1,7 +1,8 @@
 -- What an open archive and its area hold after any calls, each of which got the area as the last left it.
-use Rattle.std.proofs.Common.{◌≡◌, ℕ, ◌+◌, ◌≤◌, Bool, true, false, cond, ltb, List, [], ◌∷◌, ◌++◌, length, take, Some, None, Option, sym, refl, ap, ◌∙◌, ap₂, append_assoc, append-nil, arith}
+use Rattle.std.proofs.Common.{◌≡◌, ℕ, ◌+◌, ◌≤◌, Bool, true, cond, ltb, List, [], ◌∷◌, ◌++◌, length, take, Some, None, Option, sym, refl, ap, ◌∙◌, ap₂, append_assoc, append-nil, arith}
 use Rattle.std.specs.List.{All, AllPass}
-use Rattle.std.proofs.lemmas.Bool.{leb-true, le-leb, ltb-true, cond-true}
+use Rattle.std.proofs.lemmas.Bool.{leb-true, ltb-true}
+use Rattle.std.proofs.lemmas.Bool.Decides.{nat_tests}
 use Rattle.std.proofs.lemmas.List.Elements.{All-nil, All-push}
 use Rattle.std.proofs.lemmas.List.{length-append, length_push, flat_map_more}
 use Rattle.octets.specs.Areas.{over}
@@ -16,7 +17,6 @@ use Rattle.archive.specs.declared.writing.Refusal.TheVariants.{IllFormed, Invali
 use Rattle.archive.specs.Layout.{header, entry, entries, layout}
 use Rattle.archive.specs.Writing.{left, has_room, begin_refusal, begun, add_refusal, grown, seal_refusal, Run}
 use Rattle.archive.specs.Writing.{began, added, Sealed}
-use Rattle.archive.proofs.OneEntry.{some_none}
 
 -- the front of the area is header and entries, the archive tells where they end and how many there are, the count has
 -- room
@@ -32,8 +32,7 @@ pub record Holds (area : List ℕ) (o : OpenArchive) (ms : List ℕ) (cs : List 
 
 -- a test that did not refuse passed
 passes : (e : Refusal) (b : Bool) (o : Option Refusal) → cond b o (Some e) ≡ None → (b ≡ true) × (o ≡ None)
-passes e true o h = (refl, h)
-passes e false o h = absurd (some_none h)
+passes e b o h = grind (arith, nat_tests)
 
 begun_holds : (old ms : List ℕ) → begin_refusal old ms ≡ None → Holds (over old 0 (header ms)) (begun ms) ms []
 begun_holds old ms h =
@@ -94,7 +93,7 @@ sealing area exit o ms cs e r =
     let h = holds r in
     let room = h.room in
     let accepted : seal_refusal area o ≡ None =
-    cond-true (has_room area o.at 0) None (Some NoSpace) (le-leb (o.at + 0 + 2) (length area) (omega arith)) in
+    grind (arith, nat_tests) in
     let file : take (o.at + 2) exit ≡ layout ms cs =
     ap (take (o.at + 2)) (e ∙ ap (λ x. left x area (over area o.at (le 2 o.count))) accepted)
     ∙ take_over area o.at (le 2 o.count) (omega arith)

@@ -2,7 +2,7 @@
 use Rattle.std.proofs.Common.{◌≡◌, ℕ, zero, suc, ◌+◌, ◌-◌, ◌<◌, ◌≤◌, true, List, [], ◌∷◌, ◌++◌, length, get_or, take, drop, Some, None, Ok, Err, Option, sym, refl, ap, ◌∙◌, ap₂, arith}
 use Rattle.std.specs.List.{All, AllPass}
 use Rattle.std.proofs.ByRecursion.{All-drop}
-use Rattle.std.proofs.lemmas.List.Elements.{All-nil, All-cons, All-head, All-tail}
+use Rattle.std.proofs.lemmas.List.Elements.{All-nil, All-cons, All-tail}
 use Rattle.std.proofs.lemmas.List.{nil_from_length, length-drop, drop_at, take-append-drop}
 use Rattle.octets.proofs.Numbers.{Bytes}
 use Rattle.command.specs.declared.Command.{Command}
@@ -13,7 +13,7 @@ use Rattle.archive.specs.Readers.{Gives, shown}
 use Rattle.archive.specs.declared.reading.Broken.TheVariants.{Entry as BrokenEntry}
 use Rattle.archive.specs.declared.entries.Entry.{Entry}
 use Rattle.archive.specs.declared.entries.Entries.{Entries}
-use Rattle.archive.proofs.OneEntry.{none_some, some_none, reread, rewritten, sized_part}
+use Rattle.archive.proofs.OneEntry.{Reread, reread, rewritten, sized_part}
 
 -- an entry has at least one byte, and lies within those that are left
 pub within_left : (bs : List ℕ) (s : ℕ) → size_of bs ≡ Some s → (1 ≤ s) × (s ≤ length bs)
@@ -42,7 +42,7 @@ scan_enough (suc k) (suc m) i (b ∷ bs) h g =
 pub scan_more : (i : ℕ) (bs : List ℕ) (s : ℕ) → size_of bs ≡ Some s
     → scan_all i bs ≡ and_then (command_of bs) (scan_all i (drop s bs))
 unfolding scan
-scan_more i [] s e = absurd (none_some e)
+scan_more i [] s e = absurd (cc)
 scan_more i (b ∷ bs) s e =
     let w = within_left (b ∷ bs) s e in
     let l = length-drop s (b ∷ bs) in
@@ -51,7 +51,8 @@ scan_more i (b ∷ bs) s e =
     (scan_enough (length bs) (length (drop s (b ∷ bs))) i (drop s (b ∷ bs)) (omega arith) (omega arith))
 
 -- the first entry is broken
-pub scan_stop : (i : ℕ) (bs : List ℕ) → 0 < length bs → size_of bs ≡ None → scan_all i bs ≡ found [] (Some (i - length bs))
+pub scan_stop : (i : ℕ) (bs : List ℕ) → 0 < length bs → size_of bs ≡ None
+    → scan_all i bs ≡ found [] (Some (i - length bs))
 unfolding scan
 scan_stop i [] l e = absurd (omega arith)
 scan_stop i (b ∷ bs) l e = ap (λ o. found_from o i (b ∷ bs) (scan (length bs) i)) e
@@ -75,7 +76,7 @@ gave s t x g = go (size_of s.rest.now) refl g.answer
     go : (o : Option ℕ) → size_of s.rest.now ≡ o
         → shown (Some x) ≡ first_of s.end s.rest.now o
         → (k : ℕ) × Gave s x t k
-    go None q h = absurd (some_none h)
+    go None q h = absurd (cc)
     go (Some k) q h = (k, record { size = q; bytes = same _ _ _ _ h; left = g.after ∙ ap (λ o. after o s.rest.now) q })
 
 -- and that none was
@@ -86,7 +87,7 @@ gave_none s t g = go (size_of s.rest.now) refl g.answer
         → shown None ≡ first_of s.end s.rest.now o
         → (size_of s.rest.now ≡ None) × (t.rest.now ≡ s.rest.now)
     go None q h = (q, g.after ∙ ap (λ o. after o s.rest.now) q)
-    go (Some k) q h = absurd (none_some h)
+    go (Some k) q h = absurd (cc)
 
 -- one entry more was counted
 pub counted_more : (n : ℕ) (s t : Entries) (x : Entry) → Gives s (Some x) t
@@ -120,16 +121,28 @@ given_shorter s t x g =
     let w = within_left s.rest.now k.0 k.1.size in
     omega (arith, ap length k.1.left, length-drop k.0 s.rest.now)
 
+-- the commands after the first
+pub formed_rest : (c : Command) (cs : List Command) → AllPass well_formed (c ∷ cs) → AllPass well_formed cs
+formed_rest c cs h = All-tail (λ d. well_formed d ≡ true) c cs h
+
+pub sized_rest : (c : Command) (cs : List Command) → All Sized (c ∷ cs) → All Sized cs
+sized_rest c cs s = All-tail Sized c cs s
+
+-- the first of a list's entries, read again with the others after it
+pub reread_first : (c : Command) (cs : List Command) → AllPass well_formed (c ∷ cs) → All Sized (c ∷ cs)
+    → Reread (entry c) c (entries cs)
+reread_first c cs h s = reread c (entries cs) (h 0 c (omega arith)) (s 0 c (omega arith))
+
 -- what was written of a list is found again
 pub scan_entries : (cs : List Command) (i : ℕ) → AllPass well_formed cs → All Sized cs
     → scan_all i (entries cs) ≡ found cs None
 scan_entries [] i h s = scan_end i
 scan_entries (c ∷ cs) i h s =
-    let r = reread c (entries cs) (All-head (λ d. well_formed d ≡ true) c cs h) (All-head Sized c cs s) in
+    let r = reread_first c cs h s in
     let left = drop_at (entry c) (entries cs) (length (entry c)) refl in
     scan_more i (entry c ++ entries cs) (length (entry c)) r.size
     ∙ ap₂ (λ (d : Command) (xs : List ℕ). and_then d (scan_all i xs)) r.same left
-    ∙ ap (and_then c) (scan_entries cs i (All-tail (λ d. well_formed d ≡ true) c cs h) (All-tail Sized c cs s))
+    ∙ ap (and_then c) (scan_entries cs i (formed_rest c cs h) (sized_rest c cs s))
 
 -- bytes whose entries are all whole are what is written of the commands that were found
 pub record Whole (bs : List ℕ) (cs : List Command) : Type 0 where
@@ -141,7 +154,7 @@ pub record Whole (bs : List ℕ) (cs : List Command) : Type 0 where
 entries_step : (i : ℕ) (bs : List ℕ) (o : Option ℕ) → size_of bs ≡ o → Bytes bs → (f : List ℕ → Found)
     → ((s : ℕ) → o ≡ Some s → (f (drop s bs)).broken ≡ None → Whole (drop s bs) (f (drop s bs)).commands)
     → (found_from o i bs f).broken ≡ None → Whole bs (found_from o i bs f).commands
-entries_step i bs None q b f next e = absurd (none_some (sym e))
+entries_step i bs None q b f next e = absurd (cc)
 entries_step i bs (Some s) q b f next e =
     let r = rewritten bs s b q in
     let w = next s refl e in
@@ -154,8 +167,9 @@ entries_step i bs (Some s) q b f next e =
 entries_scan : (k i : ℕ) (bs : List ℕ) → length bs ≤ k → Bytes bs → (scan k i bs).broken ≡ None
     → Whole bs (scan k i bs).commands
 unfolding scan
-entries_scan k i [] h b e = record { bytes = refl; formed = All-nil (λ d. well_formed d ≡ true); sized = All-nil Sized }
-entries_scan zero i (x ∷ bs) h b e = absurd (none_some (sym e))
+entries_scan k i [] h b e =
+    record { bytes = refl; formed = All-nil (λ d. well_formed d ≡ true); sized = All-nil Sized }
+entries_scan zero i (x ∷ bs) h b e = absurd (cc)
 entries_scan (suc k) i (x ∷ bs) h b e =
     entries_step i (x ∷ bs) (size_of (x ∷ bs)) refl b (scan k i)
     (λ s q none.

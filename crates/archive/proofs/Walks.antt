@@ -1,21 +1,20 @@
 -- Entry n of the bytes that a list's entries are.
-use Rattle.std.proofs.Common.{◌≡◌, ℕ, zero, suc, ◌+◌, ◌-◌, ◌≤◌, Bool, true, cond, ◌&&◌, ltb, leb, List, [], ◌∷◌, ◌++◌, length, get_or, take, Some, None, Option, sym, refl, ap, ◌∙◌, ap₂, subst, arith}
+use Rattle.std.proofs.Common.{◌≡◌, ℕ, zero, suc, ◌+◌, ◌-◌, ◌≤◌, Bool, cond, ◌&&◌, ltb, leb, List, [], ◌∷◌, ◌++◌, length, get_or, take, Some, None, Option, sym, refl, ap, ◌∙◌, ap₂, subst, arith}
 use Rattle.archive.specs.declared.entries.Entry.{Entry}
 use Rattle.archive.specs.declared.entries.Entries.{Entries}
 use Rattle.archive.specs.Readers.{Gives, shown}
 use Rattle.std.specs.Iterator.{Yields}
 use Rattle.std.specs.Option.{MatchOption}
-use lib.Dec.{leb-suc-zero, leb-suc-suc}
+use lib.Dec.{leb-suc-suc}
 use Rattle.std.specs.List.{All, AllPass}
 use Rattle.std.proofs.lemmas.Bool.{cond-true, cond-false, lt-ltb}
+use Rattle.std.proofs.lemmas.Bool.Decides.{nat_tests}
 use Rattle.std.proofs.lemmas.List.{length-append, drop_at, take_at}
-use Rattle.std.proofs.lemmas.List.Elements.{All-head, All-tail}
 use Rattle.command.specs.declared.Command.{Command}
 use Rattle.command.specs.Commands.{well_formed, Sized}
 use Rattle.archive.specs.Layout.{header, entry, entries, Archive}
 use Rattle.archive.specs.Reading.{size_of, noop, after, first_of, entry_at, entry_of, count_at, body_of}
-use Rattle.archive.proofs.OneEntry.{reread}
-use Rattle.archive.proofs.Scans.{gave_none}
+use Rattle.archive.proofs.Scans.{gave_none, formed_rest, sized_rest, reread_first}
 use Rattle.archive.proofs.Files.{file_body, file_count}
 
 -- where there is no first entry there is none
@@ -34,17 +33,17 @@ walked : (m : ℕ) (cs : List Command) (e : ℕ) → AllPass well_formed cs → 
     → length (entries cs) ≤ e
     → entry_at (suc m) e (entries cs) ≡ told e cs m
 unfolding told
-walked m [] e h s l = entry_none m e [] refl ∙ sym (cond-false (ltb m 0) _ None (leb-suc-zero m))
+walked m [] e h s l = entry_none m e [] refl ∙ sym (cond-false (ltb m 0) _ None (grind (arith, nat_tests)))
 walked zero (c ∷ cs) e h s l =
-    let r = reread c (entries cs) (All-head (λ d. well_formed d ≡ true) c cs h) (All-head Sized c cs s) in
+    let r = reread_first c cs h s in
     let bs = entry c ++ entries cs in
     let offset : e - length bs ≡ e - length bs + 0 = omega arith in
     let make : ℕ → List ℕ → Option (ℕ × List ℕ) = λ i xs. Some (i, xs) in
     ap (first_of e bs) r.size
     ∙ ap₂ make offset (take_at (entry c) (entries cs) (length (entry c)) refl)
-    ∙ sym (cond-true (ltb 0 (suc (length cs))) _ None (lt-ltb 0 (suc (length cs)) (omega arith)))
+    ∙ sym (cond-true (ltb 0 (suc (length cs))) _ None (grind (arith, nat_tests)))
 walked (suc m) (c ∷ cs) e h s l =
-    let r = reread c (entries cs) (All-head (λ d. well_formed d ≡ true) c cs h) (All-head Sized c cs s) in
+    let r = reread_first c cs h s in
     let bs = entry c ++ entries cs in
     let long = length-append (entry c) (entries cs) in
     let taken = length-append (entry c) (entries (take m cs)) in
@@ -55,7 +54,8 @@ walked (suc m) (c ∷ cs) e h s l =
     let test : ltb m (length cs) ≡ ltb (suc m) (suc (length cs)) = sym (leb-suc-suc (suc m) (length cs)) in
     let make : Bool → ℕ → Option (ℕ × List ℕ) = λ b i. cond b (Some (i, entry (get_or cs m noop))) None in
     ap (λ o. entry_at (suc m) e (after o bs)) r.size
-    ∙ ap (entry_at (suc m) e) left ∙ walked m cs e (All-tail (λ d. well_formed d ≡ true) c cs h) (All-tail Sized c cs s) (omega arith) ∙ ap₂ make test offset
+    ∙ ap (entry_at (suc m) e) left ∙ walked m cs e (formed_rest c cs h) (sized_rest c cs s) (omega arith)
+    ∙ ap₂ make test offset
 
 pub entry_of_part : (f ms : List ℕ) (cs : List Command) (n : ℕ) → Archive f ms cs
     → entry_at n (count_at f) (body_of f) ≡ entry_of ms cs n

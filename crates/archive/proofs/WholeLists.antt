@@ -34,7 +34,10 @@ left_some x area written exit r h e = h ∙ ap (λ y. left y area written) e
 -- `map_err` leaves what is well
 pub was_ok : {X D E : Type 0} (r : Result X E) (q : Result X D) (P : E → D → Type 0)
     → MatchResult r (λ x. q ≡ Ok x) (λ e. IsErrAnd q (P e)) → (x : X) → q ≡ Ok x → r ≡ Ok x
-was_ok {X = X} {D = D} (Ok y) q P h x e = let same : ◌≡◌ {A = Result X D} (Ok y) (Ok x) = sym h ∙ e in let z : y ≡ x = cc in ap Ok z
+was_ok {X = X} {D = D} (Ok y) q P h x e =
+    let same : ◌≡◌ {A = Result X D} (Ok y) (Ok x) = sym h ∙ e in
+    let z : y ≡ x = cc in
+    ap Ok z
 was_ok {X = X} {D = D} (Err y) (Ok z) P h x e = absurd h
 was_ok {X = X} {D = D} (Err y) (Err z) P h x e = absurd (cc)
 

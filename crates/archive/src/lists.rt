@@ -20,8 +20,14 @@ pub enum ListRefusal {
 impl fmt::Display for ListRefusal {
     fn fmt<W: fmt::Write>(&self, f: &mut fmt::Formatter<W>) -> fmt::Result {
         match self {
-            ListRefusal::Begin(refusal) => write!(f, "{refusal}"),
-            ListRefusal::Entry { number, refusal } => write!(f, "entry {number}: {refusal}"),
+            ListRefusal::Begin(refusal) => write!(f, "refused {}: {refusal}", refusal.number()),
+            ListRefusal::Entry { number, refusal } => {
+                write!(
+                    f,
+                    "refused {} at entry {number}: {refusal}",
+                    refusal.number()
+                )
+            }
         }
     }
 }

@@ -53,12 +53,13 @@ impl Broken {
 
 impl fmt::Display for Broken {
     fn fmt<W: fmt::Write>(&self, f: &mut fmt::Formatter<W>) -> fmt::Result {
-        match self {
-            Broken::Mark => write!(f, "the file does not begin as an archive"),
-            Broken::Chain => write!(f, "the founding chain is not valid"),
-            Broken::Entry { .. } => write!(f, "the entry that begins here is broken"),
-            Broken::Count { .. } => write!(f, "the count is not that of the entries"),
-        }
+        let part = match self {
+            Broken::Mark => "the file does not begin as an archive",
+            Broken::Chain => "the founding chain is not valid",
+            Broken::Entry { .. } => "the entry that begins here is broken",
+            Broken::Count { .. } => "the count is not that of the entries",
+        };
+        write!(f, "refused {} at {}: {part}", self.number(), self.offset())
     }
 }
 
@@ -137,6 +138,7 @@ fn count_entries(entries: Entries) -> Result<usize, Broken>
 {
     let mut left = entries;
     let mut count = 0;
+    // Not `count()`, which would not tell what is left after the last whole entry.
     while left.next().is_some() {
         count += 1;
     }

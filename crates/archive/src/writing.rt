@@ -14,7 +14,7 @@ use std::fmt;
 
 /// An archive that is being written: where its next part goes, and how many entries it has. It tells no length,
 /// and it cannot be let go: seal or strike ends it.
-#[derive(PartialEq, Eq, Debug)]
+// Plain numbers and not the area: each call is handed the area, whose owner may read it in between.
 pub struct OpenArchive {
     at: usize,
     count: u16,
@@ -46,14 +46,12 @@ impl Refusal {
 
 impl fmt::Display for Refusal {
     fn fmt<W: fmt::Write>(&self, f: &mut fmt::Formatter<W>) -> fmt::Result {
-        match self {
-            Refusal::IllFormed => write!(f, "the command is not well formed"),
-            Refusal::InvalidChain => {
-                write!(f, "a chain is 1 to 7 different directors from 0 to 31")
-            }
-            Refusal::NoSpace => write!(f, "the area has no space for it"),
-            Refusal::Full => write!(f, "an archive holds at most 65,535 entries"),
-        }
+        f.write_str(match self {
+            Refusal::IllFormed => "the command is not well formed",
+            Refusal::InvalidChain => "a chain is 1 to 7 different directors from 0 to 31",
+            Refusal::NoSpace => "the area has no space for it",
+            Refusal::Full => "an archive holds at most 65,535 entries",
+        })
     }
 }
 

@@ -20,10 +20,10 @@ use Rattle.area_journal.specs.Reading.{capacity_of, promised_of, count_of, place
 use Rattle.area_journal.specs.Reading.{meaning_of}
 use Rattle.area_journal.specs.Opening.{record_good, is_held, place_good, record_is_good}
 use Rattle.area_journal.specs.Exactness.{slot_at, place_laid, Laid, Stored, Entered, Sensible}
-use Rattle.area_journal.specs.Checks.{Sound, sound_from}
+use Rattle.area_journal.proofs.Checks.{Sound}
 use Rattle.area_journal.proofs.Meanings.{count_is}
 use Rattle.area_journal.proofs.Places.{held_parts}
-use Rattle.area_journal.specs.Questions.{within}
+use Rattle.area_journal.specs.Within.{within_of}
 use Rattle.area_journal.proofs.Writes.{good_place_is}
 
 -- a command that was read from a record in order is written again the same
@@ -158,7 +158,7 @@ module _ (area : List ℕ) (h : Bytes area) (s : Sound area) where
       let long = s.long in
       let count = count_is area in
       record {
-        within = within area (sound_from area s);
+        within = within_of area s.long s.held;
         promised = num_part area h 0 4 (omega arith);
         entries = λ i l.
             subst

@@ -1,40 +1,44 @@
 -- A write of the bytes of a vector is a write of the journal.
-use Rattle.std.proofs.Common.{◌≡◌, ℕ, Bool, true, List, ◌++◌, length, None, Ok, Err, vec_items, Result, Vec, sym, ap, ◌∙◌, subst}
+use Rattle.std.proofs.Common.{◌≡◌, ℕ, Bool, true, List, length, None, Ok, Err, vec_items, Result, Vec, sym, ap, ◌∙◌}
 use Rattle.std.specs.Vec.{with_items}
 use Rattle.std.specs.declared.alloc.Global.{Global}
 use Rattle.std.proofs.lemmas.List.{with_items_is}
 use Rattle.journal.specs.declared.writes.Write.{Write}
-use Rattle.journal.specs.Meaning.{Meaning, wrote}
+use Rattle.journal.specs.Meaning.{Writes, taken}
 use Rattle.area_journal.specs.declared.areas.AreaJournal.{AreaJournal}
-use Rattle.area_journal.specs.declared.faults.OpenFault.{OpenFault}
-use Rattle.area_journal.specs.Journals.{Behind, Opens, Again}
+use Rattle.area_journal.specs.declared.faults.NotOpened.{NotOpened}
+use Rattle.area_journal.specs.Journals.{bytes_of, tells, may_lie_behind, Opens, Again}
 use Rattle.area_journal.specs.Opening.{is_sound, fault}
-use Rattle.area_journal.specs.Checks.{some_none}
+use Rattle.area_journal.proofs.Checks.{some_none}
 use Rattle.area_journal.specs.Reading.{meaning_of}
-use Rattle.area_journal.specs.Writing.{Does}
+use Rattle.area_journal.specs.Writing.{written, NumbersFit, Does}
+use Rattle.area_journal.proofs.Doing.{did}
 use Rattle.area_journal.proofs.Histories.{behind_more}
 
-module _ (w : Write) (v : Vec ℕ Global) (area exit : List ℕ) (r : Bool) (e : area ≡ vec_items v)
-    (l : length exit ≡ v.len)
-    (d : Does w area exit r) where
-  pub sound_kept : is_sound (vec_items (with_items v exit)) ≡ true
-  sound_kept = ap is_sound (with_items_is v exit l) ∙ d.sound
+-- a write that is taken, made in the bytes of a vector
+pub did_in : (w : Write) (v : Vec ℕ Global) (area exit : List ℕ) (r : Bool) → area ≡ vec_items v
+    → length exit ≡ v.len
+    → is_sound (vec_items v) ≡ true
+    → NumbersFit w
+    → r ≡ taken w (meaning_of (vec_items v))
+    → r ≡ true
+    → exit ≡ written w area
+    → Does w (vec_items v) (vec_items (with_items v exit)) r
+did_in w v area exit r e l sound f t y x =
+    did w (vec_items v) (vec_items (with_items v exit)) r sound f t y (with_items_is v exit l ∙ x ∙ ap (written w) e)
 
-  pub does_kept : Does w (vec_items v) (vec_items (with_items v exit)) r
-  does_kept =
-      subst (λ (xs : List ℕ). Does w xs (vec_items (with_items v exit)) r) e
-      (subst (λ (xs : List ℕ). Does w area xs r) (sym (with_items_is v exit l)) d)
-
--- what lies behind a journal after a write
-pub behind_does : (w : Write) (area exit : List ℕ) (r : Bool) → Does w area exit r → (ws : List Write)
-    → Behind (meaning_of area) ws
-    → Behind (meaning_of exit) (ws ++ wrote w (meaning_of area))
-behind_does w area exit r d ws b =
-    subst (λ (m : Meaning). Behind m (ws ++ wrote w (meaning_of area))) (sym d.after)
-    (behind_more w (meaning_of area) ws b)
+-- a write of the bytes of a journal is a write of the journal
+pub writes_does : (w : Write) (old new : AreaJournal) (r : Bool) → Does w (bytes_of old) (bytes_of new) r
+    → Writes tells may_lie_behind w old new r
+writes_does w old new r d =
+    record {
+      answer = d.answer;
+      after = d.after;
+      behind = λ ws b. rw (d.after) (behind_more w (meaning_of (bytes_of old)) ws b);
+    }
 
 -- the bytes of a journal, opened again
-pub opened_again : (area : List ℕ) → fault area ≡ None → (x : Result AreaJournal (Vec ℕ Global × OpenFault))
+pub opened_again : (area : List ℕ) → fault area ≡ None → (x : Result AreaJournal NotOpened)
     → Opens area x
     → Again (meaning_of area) x
 opened_again area sound (Ok j) o = ap meaning_of o.1

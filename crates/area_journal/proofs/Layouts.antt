@@ -10,7 +10,7 @@ use Rattle.area_journal.specs.Layout.{command_bytes, entry_bytes, blank_bytes, c
 use Rattle.area_journal.specs.Reading.{promised_of, count_of, command_in, entry_in, meaning_of}
 use Rattle.area_journal.specs.Opening.{place_good}
 use Rattle.area_journal.specs.Exactness.{slot_at, place_laid, Laid, Entered, Sensible, Exact}
-use Rattle.area_journal.specs.Checks.{Sound, sound_parts, sound_from, none_sound, sound_none}
+use Rattle.area_journal.proofs.Checks.{Sound, sound_parts, sound_from, none_sound, sound_none}
 use Rattle.area_journal.proofs.Exactness.{laid, sensible}
 use Rattle.area_journal.proofs.Places.{blank_good, good_record_is, command_read, entry_read, entry_good}
 use Rattle.area_journal.proofs.Writes.{good_place, good_record}

@@ -1,8 +1,12 @@
+pub mod Checks
+pub mod Questions
 pub mod Places
 pub mod Meanings
 pub mod Writes
+pub mod Placed
 pub mod Puts
 pub mod Settles
+pub mod Doing
 pub mod Histories
 pub mod Keeping
 pub mod Exactness

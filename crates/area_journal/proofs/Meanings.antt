@@ -1,20 +1,22 @@
 -- The meaning of an area, part by part.
-use Rattle.std.proofs.Common.{◌≡◌, ℕ, ◌+◌, ◌-◌, ◌/◌, ◌<◌, min, true, false, ◌&&◌, eqb, ltb, leb, List, [], ◌∷◌, ◌++◌, map, length, get_or, set, sym, refl, ap, ◌∙◌, ap₂, inl, inr, arith}
+use Rattle.std.proofs.Common.{◌≡◌, ℕ, ◌+◌, ◌-◌, ◌/◌, ◌<◌, min, Bool, true, false, List, [], ◌∷◌, ◌++◌, map, length, get_or, set, sym, ap, ◌∙◌, ap₂, inl, inr, arith}
 use Rattle.std.specs.List.{range_with_len}
 use Rattle.std.proofs.lemmas.List.FromFn.{length-map-range_with_len, get_or-map-range_with_len, map-range_with_len_more, fill_by_all}
 use Rattle.std.proofs.lemmas.List.{length-set, get_or-set_same, get_or-set_other}
 use Rattle.std.proofs.lemmas.Bool.{cases_eq, cond-true, cond-false}
 use Rattle.command.specs.declared.Command.{Command}
-use Rattle.command.specs.Commands.{well_formed}
 use Rattle.journal.specs.declared.writes.Write.{Write}
-use Rattle.journal.specs.declared.writes.Write.TheVariants.{Promise, Put, Settle}
+use Rattle.journal.specs.declared.writes.Write.TheVariants.{Settle}
 use Rattle.journal.specs.Meaning.{taken, after, step, settled_count}
-use Rattle.journal.specs.Windows.{in_window}
-use Rattle.area_journal.specs.Layout.{record_bytes, records_at}
-use Rattle.area_journal.specs.Reading.{capacity_of, promised_of, count_of, command_in, meaning_of}
+use Rattle.std.proofs.lemmas.Bool.Decides.{nat_tests}
+use Rattle.octets.specs.Areas.{over}
+use Rattle.octets.specs.Numbers.{le}
+use Rattle.journal.specs.Windows.{place_of}
+use Rattle.area_journal.specs.Layout.{command_of, record_bytes, records_at, record_at, place_at, count_at, command_bytes, blank_bytes}
+use Rattle.area_journal.specs.Reading.{capacity_of, count_of, record_in, command_in, meaning_of}
 use Rattle.area_journal.specs.Opening.{is_sound}
-use Rattle.area_journal.specs.Writing.{takes_put, takes_settle, written, Does}
-use Rattle.area_journal.specs.Checks.{Sound, sound_from}
+use Rattle.area_journal.specs.Writing.{written, Does}
+use Rattle.area_journal.proofs.Checks.{Sound, sound_from}
 
 -- lists that are made by index
 pub same_counted : {X : Type 0} (f g : ℕ → X) (k : ℕ) → ((i : ℕ) → i < k → f i ≡ g i)
@@ -22,6 +24,14 @@ pub same_counted : {X : Type 0} (f g : ℕ → X) (k : ℕ) → ((i : ℕ) → i
 same_counted f g k h =
     fill_by_all g (map f (range_with_len 0 k)) k (f 0) (length-map-range_with_len f 0 k)
     (λ i l. get_or-map-range_with_len f 0 k i i (f 0) l (omega arith) ∙ h i l)
+
+-- the settled commands of an area with the same count and records
+pub settled_same : (area new : List ℕ) → count_of new ≡ count_of area
+    → ((i : ℕ) → i < count_of area → record_in new i ≡ record_in area i)
+    → map (command_in new) (range_with_len 0 (count_of new)) ≡ map (command_in area) (range_with_len 0 (count_of area))
+settled_same area new e h =
+    ap (λ (k : ℕ). map (command_in new) (range_with_len 0 k)) e
+    ∙ same_counted (command_in new) (command_in area) (count_of area) (λ i l. ap command_of (h i l))
 
 pub set_counted : {X : Type 0} (f g : ℕ → X) (k j : ℕ) (x : X) → j < k → g j ≡ x
     → ((i : ℕ) → i < k → (i ≡ j → ⊥) → g i ≡ f i)
@@ -48,41 +58,50 @@ pub count_is : (area : List ℕ) → settled_count (meaning_of area) ≡ count_o
 unfolding meaning_of
 count_is area = length-map-range_with_len (command_in area) 0 (count_of area)
 
-pub taken_put : (area : List ℕ) (n b : ℕ) (c : Command) → taken (Put n b c) (meaning_of area) ≡ takes_put area n b c
+-- a settle is taken only where a slot is left
+pub less_settle : (area : List ℕ) (c : Command) → taken (Settle c) (meaning_of area) ≡ true
+    → count_of area < capacity_of area
 unfolding taken meaning_of
-taken_put area n b c =
-    ap (λ (p : ℕ).
-    eqb b (promised_of area) && leb 1 b && in_window p n && leb n (capacity_of area) && well_formed c)
-    (length-map-range_with_len (command_in area) 0 (count_of area))
+less_settle area c t = grind (arith, nat_tests, count_is area)
 
-pub taken_settle : (area : List ℕ) (c : Command) → taken (Settle c) (meaning_of area) ≡ takes_settle area c
-unfolding taken meaning_of
-taken_settle area c =
-    ap (λ (p : ℕ). ltb p (capacity_of area) && well_formed c) (length-map-range_with_len (command_in area) 0 (count_of area))
-
-pub taken_promise : (area : List ℕ) (b : ℕ) → taken (Promise b) (meaning_of area) ≡ leb (promised_of area) b
-unfolding taken meaning_of
-taken_promise area b = refl
+-- the three parts of a settle, written one after another
+pub written_settle : (w : Write) (area once twice exit : List ℕ) (p i k : ℕ) (d : Command) → w ≡ Settle d
+    → p ≡ count_of area
+    → i ≡ record_at p
+    → k ≡ place_at (place_of (p + 1))
+    → once ≡ over area i (command_bytes d)
+    → twice ≡ over once count_at (le 4 (p + 1))
+    → exit ≡ over twice k blank_bytes
+    → exit ≡ written w area
+unfolding written
+written_settle w area once twice exit p i k d is count at place e f g =
+    simp (is, g, f, e, place, at, count)
 
 -- a write that is taken, and one that is not
-pub does : (w : Write) (area exit : List ℕ) → taken w (meaning_of area) ≡ true → exit ≡ written w area → Sound exit
-    → meaning_of exit ≡ after w (meaning_of area) → Does w area exit true
+pub does : (w : Write) (area exit : List ℕ) (r : Bool) → r ≡ taken w (meaning_of area) → r ≡ true
+    → exit ≡ written w area
+    → Sound exit
+    → meaning_of exit ≡ after w (meaning_of area)
+    → Does w area exit r
 unfolding step
-does w area exit t e s m =
+does w area exit r t y e s m =
+    let h = sym t ∙ y in
     record {
-      answer = sym t;
-      bytes = e ∙ sym (cond-true (taken w (meaning_of area)) (written w area) area t);
-      after = m ∙ sym (cond-true (taken w (meaning_of area)) (after w (meaning_of area)) (meaning_of area) t);
+      answer = t;
+      bytes = e ∙ sym (cond-true (taken w (meaning_of area)) (written w area) area h);
+      after = m ∙ sym (cond-true (taken w (meaning_of area)) (after w (meaning_of area)) (meaning_of area) h);
       sound = sound_from exit s;
     }
 
-pub does_not : (w : Write) (area : List ℕ) → taken w (meaning_of area) ≡ false → is_sound area ≡ true
-    → Does w area area false
+pub does_not : (w : Write) (area : List ℕ) (r : Bool) → r ≡ taken w (meaning_of area) → r ≡ false
+    → is_sound area ≡ true
+    → Does w area area r
 unfolding step
-does_not w area t s =
+does_not w area r t n s =
+    let h = sym t ∙ n in
     record {
-      answer = sym t;
-      bytes = sym (cond-false (taken w (meaning_of area)) (written w area) area t);
-      after = sym (cond-false (taken w (meaning_of area)) (after w (meaning_of area)) (meaning_of area) t);
+      answer = t;
+      bytes = sym (cond-false (taken w (meaning_of area)) (written w area) area h);
+      after = sym (cond-false (taken w (meaning_of area)) (after w (meaning_of area)) (meaning_of area) h);
       sound = s;
     }

@@ -1,15 +1,11 @@
 -- What the bytes of records and places hold, and when they are in order.
-use Rattle.std.proofs.Common.{◌≡◌, ℕ, ◌+◌, ◌%◌, ◌^◌, ◌<◌, ◌≤◌, Bool, true, ◌&&◌, eqb, ltb, leb, List, refl, ap, ◌∙◌, inl, inr, arith}
-use Rattle.std.specs.Str.{bytes_eq}
-use Rattle.std.proofs.lemmas.Slice.Eq.{bytes_eq-Decides}
-use Rattle.std.proofs.lemmas.Bool.{and_parts, and_from, eqb-true, eq-eqb, leb-true, le-leb, ltb-true, lt-ltb, or_cases, or_left, or_right}
-use Rattle.octets.specs.Areas.{part}
+use Rattle.std.proofs.Common.{◌≡◌, ℕ, ◌+◌, ◌%◌, ◌^◌, ◌<◌, ◌≤◌, Bool, true, ◌&&◌, eqb, ltb, leb, List, refl, arith}
+use Rattle.std.proofs.lemmas.Bool.Decides.{nat_tests}
 use Rattle.octets.proofs.Numbers.{num_le}
 use Rattle.command.specs.declared.Command.{Command}
 use Rattle.command.specs.Commands.{well_formed, serial_bytes, Sized}
 use Rattle.area_journal.specs.Layout.{command_bytes, entry_bytes, blank_bytes, command_of, slot_of, entry_of}
-use Rattle.area_journal.specs.Layout.{record_bytes}
-use Rattle.area_journal.specs.Opening.{record_good, is_held, place_good}
+use Rattle.area_journal.specs.Opening.{record_good, place_good}
 
 -- a command is read again from its bytes
 pub command_read : (c : Command) → Sized c → command_of (command_bytes c) ≡ c
@@ -23,9 +19,7 @@ command_read c s = λ i.
     }
 
 pub good_record_is : (c : Command) → Sized c → well_formed c ≡ true → record_good (command_bytes c) ≡ true
-good_record_is c s h =
-    and_from (eqb 0 0) (well_formed (command_of (command_bytes c))) (eq-eqb 0 0 refl)
-    (ap well_formed (command_read c s) ∙ h)
+good_record_is c s h = grind (arith, nat_tests, command_read c s)
 
 -- an entry that may stand in place i, by its slot, its ballot and whether its record is in order
 pub record Held (c promised p i n b : ℕ) (g : Bool) : Type 0 where
@@ -42,66 +36,19 @@ module _ (c promised p i n b : ℕ) (g : Bool) where
   tests = eqb (n % 8) i && (ltb p n && leb n (p + 8)) && leb n c && leb 1 b && leb b promised && g
 
   pub held_parts : tests ≡ true → Held c promised p i n b g
-  held_parts h =
-      let s = and_parts _ g h in
-      let t = and_parts _ (leb b promised) s.0 in
-      let u = and_parts _ (leb 1 b) t.0 in
-      let v = and_parts _ (leb n c) u.0 in
-      let w = and_parts (eqb (n % 8) i) (ltb p n && leb n (p + 8)) v.0 in
-      let x = and_parts (ltb p n) (leb n (p + 8)) w.1 in
-      record {
-        place = eqb-true (n % 8) i w.0;
-        above = ltb-true p n x.0;
-        window = leb-true n (p + 8) x.1;
-        within = leb-true n c v.1;
-        some = leb-true 1 b u.1;
-        most = leb-true b promised t.1;
-        good = s.1;
-      }
+  held_parts h = grind (arith, nat_tests)
 
   pub held_from : Held c promised p i n b g → tests ≡ true
-  held_from h =
-      and_from _ g
-      (and_from _ (leb b promised)
-      (and_from _ (leb 1 b)
-      (and_from _ (leb n c)
-      (and_from (eqb (n % 8) i) (ltb p n && leb n (p + 8)) (eq-eqb (n % 8) i h.place)
-      (and_from (ltb p n) (leb n (p + 8)) (lt-ltb p n h.above) (le-leb n (p + 8) h.window)))
-      (le-leb n c h.within))
-      (le-leb 1 b h.some))
-      (le-leb b promised h.most))
-      h.good
+  held_from h = grind (arith, nat_tests)
 
 -- a place stays in order under a higher promise, and with more settled slots where its own is not one of them
 pub place_kept : (c l m p q i : ℕ) (bs : List ℕ) → place_good c l p i bs ≡ true → l ≤ m → p ≤ q
     → ((n : ℕ) → p < n → n % 8 ≡ i → q < n) → place_good c m q i bs ≡ true
-place_kept c l m p q i bs h less more later =
-    elim (or_cases (bytes_eq bs blank_bytes) (is_held c l p i bs) h) [
-      | inl e ↦ or_left (bytes_eq bs blank_bytes) (is_held c m q i bs) e
-      | inr e ↦
-          let n = slot_of bs in
-          let b = (entry_of bs).ballot in
-          let g = record_good (part 8 record_bytes bs) in
-          let p = held_parts c l p i n b g e in
-          let above = later n p.above p.place in
-          or_right (bytes_eq bs blank_bytes) (is_held c m q i bs)
-          (held_from c m q i n b g
-          (record {
-            place = p.place;
-            above = above;
-            window = omega arith;
-            within = p.within;
-            some = p.some;
-            most = omega arith;
-            good = p.good;
-          }))
-    ]
+place_kept c l m p q i bs h less more later = grind (arith, nat_tests, later (slot_of bs))
 
 -- a blank place is in order
 pub blank_good : (c l p i : ℕ) → place_good c l p i blank_bytes ≡ true
-blank_good c l p i =
-    or_left (bytes_eq blank_bytes blank_bytes) (is_held c l p i blank_bytes)
-    ((bytes_eq-Decides blank_bytes blank_bytes).1 refl)
+blank_good c l p i = refl
 
 -- an entry that was written, read again
 module _ (n b : ℕ) (d : Command) (slot : n < 256 ^ 4) (ballot : b < 256 ^ 4) (sized : Sized d) where
@@ -113,16 +60,6 @@ module _ (n b : ℕ) (d : Command) (slot : n < 256 ^ 4) (ballot : b < 256 ^ 4) (
 
   pub entry_good : (c l p i : ℕ) → Held c l p i n b (well_formed d) → place_good c l p i (entry_bytes n b d) ≡ true
   entry_good c l p i h =
-      let bs = entry_bytes n b d in
-      let e : (entry_of bs).ballot ≡ b = num_le 4 b ballot in
-      or_right (bytes_eq bs blank_bytes) (is_held c l p i bs)
-      (held_from c l p i (slot_of bs) (entry_of bs).ballot (record_good (command_bytes d))
-      (record {
-        place = ap (λ (k : ℕ). k % 8) slot_read ∙ h.place;
-        above = let s = slot_read in let a = h.above in omega arith;
-        window = let s = slot_read in let a = h.window in omega arith;
-        within = let s = slot_read in let a = h.within in omega arith;
-        some = let a = h.some in omega arith;
-        most = let a = h.most in omega arith;
-        good = good_record_is d sized h.good;
-      }))
+      let s = slot_read in
+      let e = num_le 4 b ballot in
+      grind (arith, nat_tests, good_record_is d sized h.good)

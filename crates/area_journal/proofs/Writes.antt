@@ -1,22 +1,22 @@
 -- What each write that is taken leaves: an area that is in order, with the meaning that it must have.
-use Rattle.std.proofs.Common.{◌≡◌, ℕ, ◌+◌, ◌^◌, ◌<◌, ◌≤◌, true, List, map, length, refl, ap, ◌∙◌, arith}
-use Rattle.std.specs.List.{range_with_len}
+use Rattle.std.proofs.Common.{◌≡◌, ℕ, ◌+◌, ◌^◌, ◌<◌, ◌≤◌, true, List, length, refl, ap, ◌∙◌, arith}
+use Rattle.std.proofs.lemmas.Bool.{leb-true}
 use Rattle.octets.specs.Areas.{over}
 use Rattle.octets.specs.Numbers.{le, num}
 use Rattle.octets.proofs.Areas.{length_over}
 use Rattle.octets.proofs.Numbers.{num_le}
 use Rattle.journal.specs.declared.writes.Write.TheVariants.{Promise}
-use Rattle.journal.specs.Meaning.{Meaning, after}
+use Rattle.journal.specs.Meaning.{Meaning, taken, after}
 use Rattle.area_journal.specs.Layout.{place_at, record_at, place_bytes, record_bytes}
-use Rattle.area_journal.specs.Layout.{command_of, entry_of}
-use Rattle.area_journal.specs.Reading.{capacity_of, promised_of, count_of, place_in, record_in, command_in, entry_in}
+use Rattle.area_journal.specs.Layout.{entry_of}
+use Rattle.area_journal.specs.Reading.{capacity_of, promised_of, count_of, place_in, record_in, entry_in}
 use Rattle.area_journal.specs.Reading.{meaning_of}
 use Rattle.area_journal.specs.Opening.{place_good, record_good, place_is_good, record_is_good}
 use Rattle.area_journal.specs.Writing.{written}
-use Rattle.area_journal.specs.Checks.{Sound}
+use Rattle.area_journal.proofs.Checks.{Sound}
 use Rattle.octets.proofs.Parts.{part_over, part_above}
 use Rattle.area_journal.proofs.Places.{place_kept}
-use Rattle.area_journal.proofs.Meanings.{same_counted, capacity_same}
+use Rattle.area_journal.proofs.Meanings.{same_counted, settled_same, capacity_same}
 
 -- what a write leaves
 pub record Left (new : List ℕ) (m : Meaning) : Type 0 where
@@ -85,11 +85,12 @@ module _ (area : List ℕ) (s : Sound area) where
               record {
                 capacity = cap j;
                 promised = ballot j;
-                settled =
-                    (ap (λ (n : ℕ). map (command_in new) (range_with_len 0 n)) count
-                    ∙ same_counted (command_in new) (command_in area) (count_of area)
-                    (λ i h. ap command_of (same_record i)))
-                    j;
+                settled = settled_same area new count (λ i h. same_record i) j;
                 places = same_counted (entry_in new) (entry_in area) 8 (λ i h. ap entry_of (same_place i)) j;
               };
         }
+
+pub left_promise : (area : List ℕ) (b : ℕ) → Sound area → b < 256 ^ 4 → taken (Promise b) (meaning_of area) ≡ true
+    → Left (written (Promise b) area) (after (Promise b) (meaning_of area))
+unfolding taken meaning_of
+left_promise area b sound small t = promised area sound b (leb-true (promised_of area) b t) small

@@ -4,5 +4,4 @@ pub mod Opening
 pub mod Exactness
 pub mod Writing
 pub mod Journals
-pub mod Questions
-pub mod Checks
+pub mod Within

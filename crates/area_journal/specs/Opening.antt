@@ -1,5 +1,6 @@
 -- Which areas opening accepts, and the fault that it finds first in the others.
-use Rattle.std.specs.Prelude.{ℕ, zero, suc, ◌+◌, Bool, true, false, cond, ◌&&◌, ◌||◌, List, length, Some, None, Option, ◌==◌, nat_le, nat_lt, slice_index}
+use Rattle.std.specs.Prelude.{ℕ, Bool, true, false, not, cond, ◌&&◌, ◌||◌, List, length, Some, None, Option, ◌==◌, nat_le, nat_lt, slice_index}
+use Rattle.std.specs.List.{find, range_with_len}
 use Rattle.std.specs.Str.{bytes_eq}
 use Rattle.octets.specs.Areas.{part}
 use Rattle.command.specs.Commands.{well_formed}
@@ -38,9 +39,8 @@ unfoldable pub record_is_good : List ℕ → ℕ → Bool
 record_is_good area i = record_good (record_in area i)
 
 -- the first of the k numbers from i on that fails a test
-unfoldable pub first_bad : (ℕ → Bool) → ℕ → ℕ → Option ℕ
-first_bad f i zero = None
-first_bad f i (suc k) = cond (f i) (first_bad f (i + 1) k) (Some i)
+abbrev pub first_bad : (ℕ → Bool) → ℕ → ℕ → Option ℕ
+first_bad good i k = find (λ j. not (good j)) (range_with_len i k)
 
 -- the fault of the part that was found bad, or else what later checks find
 abbrev pub or_later : (ℕ → ℕ) → Option ℕ → Option OpenFault → Option OpenFault

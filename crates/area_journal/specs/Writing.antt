@@ -1,24 +1,16 @@
 -- What the writes of a journal change in its area.
-use Rattle.std.specs.Prelude.{◌≡◌, ℕ, ◌+◌, Bool, true, cond, ◌&&◌, List, ◌==◌, nat_le, nat_lt}
+use Rattle.std.specs.Prelude.{◌≡◌, ℕ, ◌+◌, ◌^◌, ◌<◌, Bool, true, cond, List}
 use Rattle.octets.specs.Areas.{over}
 use Rattle.octets.specs.Numbers.{le}
 use Rattle.command.specs.declared.Command.{Command}
-use Rattle.command.specs.Commands.{well_formed}
+use Rattle.command.specs.Commands.{Sized}
 use Rattle.journal.specs.declared.writes.Write.{Write}
 use Rattle.journal.specs.declared.writes.Write.TheVariants.{Promise, Put, Settle}
 use Rattle.journal.specs.Meaning.{taken, step}
-use Rattle.journal.specs.Windows.{in_window, place_of}
+use Rattle.journal.specs.Windows.{place_of}
 use Rattle.area_journal.specs.Layout.{promised_at, count_at, place_at, record_at, command_bytes, entry_bytes, blank_bytes}
-use Rattle.area_journal.specs.Reading.{capacity_of, promised_of, count_of, meaning_of}
+use Rattle.area_journal.specs.Reading.{count_of, meaning_of}
 use Rattle.area_journal.specs.Opening.{is_sound}
-
--- when a put and a settle are taken, by the bytes of the area
-abbrev pub takes_put : List ℕ → ℕ → ℕ → Command → Bool
-takes_put area n b c =
-    (b == (promised_of area)) && nat_le 1 b && in_window (count_of area) n && nat_le n (capacity_of area) && well_formed c
-
-abbrev pub takes_settle : List ℕ → Command → Bool
-takes_settle area c = nat_lt (count_of area) (capacity_of area) && well_formed c
 
 -- the area with a command in record p, p + 1 settled slots, and no entry in the place of slot p + 1
 abbrev pub settled_area : List ℕ → ℕ → Command → List ℕ
@@ -30,6 +22,12 @@ unfoldable pub written : Write → List ℕ → List ℕ
 written (Promise b) area = over area promised_at (le 4 b)
 written (Put n b c) area = over area (place_at (place_of n)) (entry_bytes n b c)
 written (Settle c) area = settled_area area (count_of area) c
+
+-- the numbers of a write fit their widths
+abbrev pub NumbersFit : Write → Type 0
+NumbersFit (Promise b) = b < 256 ^ 4
+NumbersFit (Put n b c) = (n < 256 ^ 4) × (b < 256 ^ 4) × Sized c
+NumbersFit (Settle c) = Sized c
 
 -- what a write does: it answers whether it is taken, writes exactly its bytes if it is, means what it must, and leaves
 -- an area that can be opened again

@@ -1,127 +1,97 @@
-//! The checks of opening.
+//! The checks of opening, in their order: length and count (`Parts::of`), places, settled records.
 
-ghost use Rattle.std.specs.Prelude.{◌≡◌, ◌<◌, ◌≤◌, length, IfSome};
+ghost use Rattle.std.specs.Prelude.{◌≡◌, ◌<◌, ◌≤◌, Some, None, IfSome, MatchResult};
 ghost use Rattle.area_journal.specs.Exactness.{Exact};
-ghost use Rattle.area_journal.specs.Layout.{record_bytes, place_bytes, blank_bytes};
-ghost use Rattle.area_journal.specs.Opening.{record_good, is_held, place_is_good, record_is_good, first_bad, fault};
-ghost use Rattle.area_journal.specs.Reading.{shortest, capacity_of, count_of};
-ghost use Rattle.std.specs.Str.{bytes_eq};
+ghost use Rattle.area_journal.specs.Opening.{record_good, is_held, place_good, place_is_good, record_is_good, first_bad, fault};
+ghost use Rattle.area_journal.specs.Reading.{capacity_of, promised_of, count_of};
+ghost use Rattle.journal.specs.Windows.{in_window};
 
 use crate::OpenFault;
 use crate::layout::{
-    COUNT_AT, PLACE_BYTES, RECORD_BYTES, SHORTEST, SPAN, capacity_in, command_of, count_in,
-    entry_of, place_at, place_in, promised_in, record_at, record_in, slot_of,
+    BLANK, Place, Record, command_of, entry_of, place_at, record_at, record_of, slot_of,
 };
+use crate::parts::Parts;
+use journal::SPAN;
 
-// A place in which no entry stands.
-pub(crate) const BLANK: [u8; PLACE_BYTES] = [0; PLACE_BYTES];
-
-// What opening finds, in the order of its checks: length, count, places, settled records.
-pub(crate) fn fault_in(area: &[u8]) -> Option<OpenFault>
-    ensures answer { result ≡ fault area.now }
+// What opening finds: the first fault, if there is one.
+pub(crate) fn check(area: &[u8]) -> Result<(), OpenFault>
+    ensures answer { MatchResult result (λ _. fault area.now ≡ None) (λ e. fault area.now ≡ Some e) }
     ensures exact { Exact area.now }
 {
-    if area.len() < SHORTEST {
-        return Some(OpenFault::NoRecord);
-    }
-    if count_in(area) > capacity_in(area) {
-        return Some(OpenFault::Broken { offset: COUNT_AT });
-    }
-    if let Some(i) = bad_place(area) {
-        return Some(OpenFault::Broken {
-            offset: place_at(i),
-        });
-    }
-    if let Some(i) = bad_record(area) {
-        return Some(OpenFault::Broken {
-            offset: record_at(i),
-        });
-    }
-    None
+    Parts::of(area)?.check_parts()
 }
 
-// The first place that is not in order.
-fn bad_place(area: &[u8]) -> Option<usize>
-    requires long { shortest ≤ length area.now }
-    requires held { count_of area.now ≤ capacity_of area.now }
-    ensures answer { result ≡ first_bad (place_is_good area.now) 0 8 }
-    ensures within { IfSome result (λ i. i < 8) }
-{
-    for i in 0..SPAN {
-        if !is_good_place(area, i) {
-            return Some(i);
+impl Parts<'_> {
+    // The first place that is not in order, or else the first such record.
+    #[tactic(auto, using(crate::proofs::Checks::fault_later))]
+    fn check_parts(&self) -> Result<(), OpenFault>
+        ensures { MatchResult result (λ _. fault self.now.area.now ≡ None) (λ e. fault self.now.area.now ≡ Some e) }
+    {
+        if let Some(i) = self.bad_place() {
+            return Err(OpenFault::Broken {
+                offset: place_at(i),
+            });
         }
-    }
-    None
-}
-
-// The first settled record that is not in order.
-fn bad_record(area: &[u8]) -> Option<usize>
-    requires long { shortest ≤ length area.now }
-    requires held { count_of area.now ≤ capacity_of area.now }
-    ensures answer { result ≡ first_bad (record_is_good area.now) 0 (count_of area.now) }
-    ensures within { IfSome result (λ i. i ≤ 60000) }
-{
-    let count = count_in(area) as usize;
-    for i in 0..count {
-        if !is_good_record(record_in(area, i)) {
-            return Some(i);
+        if let Some(i) = self.bad_record() {
+            return Err(OpenFault::Broken {
+                offset: record_at(i),
+            });
         }
+        Ok(())
     }
-    None
+
+    // The first place that is not in order.
+    #[tactic(auto, unfolding(crate::specs::Opening::place_is_good))]
+    fn bad_place(&self) -> Option<usize>
+        ensures answer { result ≡ first_bad (place_is_good self.now.area.now) 0 8 }
+        ensures within { IfSome result (λ i. i < 8) }
+    {
+        (0..SPAN).find(|&i| !self.is_good_place(i, self.place(i)))
+    }
+
+    // The first settled record that is not in order.
+    #[tactic(auto, unfolding(crate::specs::Opening::record_is_good))]
+    fn bad_record(&self) -> Option<usize>
+        ensures answer { result ≡ first_bad (record_is_good self.now.area.now) 0 (count_of self.now.area.now) }
+        ensures within { IfSome result (λ i. i ≤ 60000) }
+    {
+        (0..self.count() as usize).find(|&i| !is_good_record(self.record(i)))
+    }
+
+    // Whether these are bytes of place i in order: none, or an entry that may stand there.
+    fn is_good_place(&self, i: usize, place: &Place) -> bool
+        ensures { result ≡ place_good (capacity_of self.now.area.now) (promised_of self.now.area.now)
+            (count_of self.now.area.now) i place.now }
+    {
+        *place == BLANK || self.may_hold(i, place)
+    }
+
+    // Whether an entry with these bytes may stand in place i.
+    fn may_hold(&self, i: usize, place: &Place) -> bool
+        ensures { result ≡ is_held (capacity_of self.now.area.now) (promised_of self.now.area.now)
+            (count_of self.now.area.now) i place.now }
+    {
+        let slot = slot_of(place);
+        let ballot = entry_of(place).ballot;
+        slot as usize % SPAN == i
+            && in_window(self.count(), slot)
+            && slot <= self.capacity()
+            && 1 <= ballot
+            && ballot <= self.promised()
+            && is_good_record(record_of(place))
+    }
 }
 
-// Whether place i is in order.
-fn is_good_place(area: &[u8], i: usize) -> bool
-    requires long { shortest ≤ length area.now }
-    requires held { count_of area.now ≤ capacity_of area.now }
-    requires place { i < 8 }
-    ensures { result ≡ place_is_good area.now i }
+// Whether a slot is in the window after this many settled ones.
+pub(crate) fn in_window(count: u32, slot: u32) -> bool
+    ensures { result ≡ in_window count slot }
 {
-    let bytes = place_in(area, i);
-    if same_bytes(bytes, &BLANK) {
-        return true;
-    }
-    holds_entry(
-        bytes,
-        i,
-        capacity_in(area),
-        promised_in(area),
-        count_in(area),
-    )
-}
-
-// Whether the bytes of place i hold an entry that may stand there.
-fn holds_entry(bytes: &[u8], i: usize, capacity: u32, promised: u32, count: u32) -> bool
-    requires size { length bytes.now ≡ place_bytes }
-    requires few { count ≤ 60000 }
-    ensures { result ≡ is_held capacity promised count i bytes.now }
-{
-    let slot = slot_of(bytes);
-    let ballot = entry_of(bytes).ballot;
-    if slot as usize % SPAN != i {
-        return false;
-    }
-    if slot <= count || slot > count + SPAN as u32 || slot > capacity {
-        return false;
-    }
-    if ballot < 1 || ballot > promised {
-        return false;
-    }
-    is_good_record(&bytes[8..8 + RECORD_BYTES])
+    count < slot && slot - count <= SPAN as u32
 }
 
 // Whether the bytes of a record are in order.
-fn is_good_record(bytes: &[u8]) -> bool
-    requires { length bytes.now ≡ record_bytes }
-    ensures { result ≡ record_good bytes.now }
+fn is_good_record(record: &Record) -> bool
+    ensures { result ≡ record_good record.now }
 {
-    bytes[1] == 0 && command_of(bytes).is_well_formed()
-}
-
-// Whether two parts hold the same bytes.
-fn same_bytes(a: &[u8], b: &[u8]) -> bool
-    ensures { result ≡ bytes_eq a.now b.now }
-{
-    a == b
+    record[1] == 0 && command_of(record).is_well_formed()
 }

@@ -2,12 +2,13 @@
 //! `specs/Layout.antt` tells the same sizes and offsets.
 
 ghost use Rattle.std.specs.Prelude.{◌≡◌, ◌+◌, ◌<◌, ◌≤◌, length};
-ghost use Rattle.area_journal.specs.Layout.{record_bytes, place_bytes, place_at, record_at, command_of, slot_of, entry_of};
-ghost use Rattle.area_journal.specs.Reading.{shortest, capacity_of, promised_of, count_of, place_in, record_in};
+ghost use Rattle.octets.specs.Areas.{part, over};
+ghost use Rattle.area_journal.specs.Layout.{record_bytes, place_at, record_at, command_of, slot_of, entry_of, command_bytes, entry_bytes};
+ghost use Rattle.area_journal.specs.Reading.{shortest, count_of};
 
-use command::{Command, SERIAL_BYTES, read_serial};
-use journal::{Entry, MOST_SLOTS};
-use octets::{read_u16, read_u32};
+use command::{Command, SERIAL_BYTES, Serial};
+use journal::{Entry, SPAN};
+use octets::{Number, write_bytes};
 
 // Where the promised ballot and the settled count stand.
 pub(crate) const PROMISED_AT: usize = 0;
@@ -15,21 +16,27 @@ pub(crate) const PROMISED_AT: usize = 0;
 pub(crate) const COUNT_AT: usize = 4;
 
 // How many bytes the record of a command takes: verb, 00, origin, serial, a, b.
-pub(crate) const RECORD_BYTES: usize = 8 + SERIAL_BYTES;
+pub(crate) const RECORD_BYTES: usize = 8 + size_of::<Serial>();
 
 // How many bytes an open entry takes: slot, ballot, command.
 pub(crate) const PLACE_BYTES: usize = 8 + RECORD_BYTES;
 
-// How many places there are for open entries, and where they begin.
-pub(crate) const SPAN: usize = 8;
-
+// Where the places for open entries begin.
 const PLACES_AT: usize = 8;
 
 // Where the settled records begin.
-const RECORDS_AT: usize = PLACES_AT + PLACE_BYTES * SPAN;
+pub(crate) const RECORDS_AT: usize = PLACES_AT + PLACE_BYTES * SPAN;
 
 /// The length of the shortest area, which has space for one settled record.
 pub const SHORTEST: usize = RECORDS_AT + RECORD_BYTES;
+
+// The bytes of a command, and those of an open entry.
+pub(crate) type Record = [u8; RECORD_BYTES];
+
+pub(crate) type Place = [u8; PLACE_BYTES];
+
+// A place in which no entry stands.
+pub(crate) const BLANK: Place = [0; PLACE_BYTES];
 
 // Where place i stands.
 pub(crate) fn place_at(i: usize) -> usize
@@ -47,80 +54,70 @@ pub(crate) fn record_at(i: usize) -> usize
     RECORDS_AT + RECORD_BYTES * i
 }
 
-// How many slots an area has.
-pub(crate) fn capacity_in(area: &[u8]) -> u32
-    requires { shortest ≤ length area.now }
-    ensures { result ≡ capacity_of area.now }
-{
-    let slots = (area.len() - RECORDS_AT) / RECORD_BYTES;
-    slots.min(MOST_SLOTS as usize) as u32
-}
-
-// The promised ballot.
-pub(crate) fn promised_in(area: &[u8]) -> u32
-    requires { shortest ≤ length area.now }
-    ensures { result ≡ promised_of area.now }
-{
-    read_u32(area, PROMISED_AT)
-}
-
-// The settled count.
+// The settled count of an area.
 pub(crate) fn count_in(area: &[u8]) -> u32
     requires { shortest ≤ length area.now }
     ensures { result ≡ count_of area.now }
 {
-    read_u32(area, COUNT_AT)
+    u32::read_le(area, COUNT_AT)
 }
 
-// The bytes of place i.
-pub(crate) fn place_in(area: &[u8], i: usize) -> &[u8]
-    requires { (i < 8) × (shortest ≤ length area.now) }
-    ensures bytes { result.now ≡ place_in area.now i }
-    ensures size { length result.now ≡ place_bytes }
-{
-    let at = place_at(i);
-    &area[at..at + PLACE_BYTES]
-}
-
-// The bytes of settled record i.
-pub(crate) fn record_in(area: &[u8], i: usize) -> &[u8]
-    requires { i < capacity_of area.now }
-    ensures bytes { result.now ≡ record_in area.now i }
-    ensures size { length result.now ≡ record_bytes }
-{
-    let at = record_at(i);
-    &area[at..at + RECORD_BYTES]
-}
-
-// The command that the bytes of a record tell.
-pub(crate) fn command_of(bytes: &[u8]) -> Command
-    requires { length bytes.now ≡ record_bytes }
-    ensures { result ≡ command_of bytes.now }
+// The command that a record tells.
+pub(crate) fn command_of(record: &Record) -> Command
+    ensures { result ≡ command_of record.now }
 {
     Command {
-        verb: bytes[0],
-        origin: read_u16(bytes, 2),
-        serial: read_serial(bytes, 4),
-        a: read_u16(bytes, 4 + SERIAL_BYTES),
-        b: read_u16(bytes, 6 + SERIAL_BYTES),
+        verb: record[0],
+        origin: u16::read_le(record, 2),
+        serial: Serial::read_le(record, 4),
+        a: u16::read_le(record, 4 + SERIAL_BYTES),
+        b: u16::read_le(record, 6 + SERIAL_BYTES),
     }
 }
 
-// The slot that the bytes of a place tell.
-pub(crate) fn slot_of(bytes: &[u8]) -> u32
-    requires { length bytes.now ≡ place_bytes }
-    ensures { result ≡ slot_of bytes.now }
+// The record in a place.
+pub(crate) fn record_of(place: &Place) -> &Record
+    ensures { result.now ≡ part 8 record_bytes place.now }
 {
-    read_u32(bytes, 0)
+    place[8..8 + RECORD_BYTES].as_array().unwrap()
 }
 
-// The entry that the bytes of a place tell.
-pub(crate) fn entry_of(bytes: &[u8]) -> Entry
-    requires { length bytes.now ≡ place_bytes }
-    ensures { result ≡ entry_of bytes.now }
+// The slot that a place tells.
+pub(crate) fn slot_of(place: &Place) -> u32
+    ensures { result ≡ slot_of place.now }
+{
+    u32::read_le(place, 0)
+}
+
+// The entry that a place tells.
+pub(crate) fn entry_of(place: &Place) -> Entry
+    ensures { result ≡ entry_of place.now }
 {
     Entry {
-        ballot: read_u32(bytes, 4),
-        command: command_of(&bytes[8..8 + RECORD_BYTES]),
+        ballot: u32::read_le(place, 4),
+        command: command_of(record_of(place)),
     }
+}
+
+// Writes the open entry of a slot.
+pub(crate) fn write_entry(area: &mut [u8], at: usize, slot: u32, ballot: u32, command: &Command)
+    requires { at + length (entry_bytes slot ballot command.now) ≤ length area.old }
+    ensures { area.new
+        ≡ over area.old at (entry_bytes slot ballot command.now) }
+{
+    slot.write_le(area, at);
+    ballot.write_le(area, at + 4);
+    write_command(area, at + 8, command);
+}
+
+// Writes the record of a command.
+pub(crate) fn write_command(area: &mut [u8], at: usize, command: &Command)
+    requires { at + length (command_bytes command.now) ≤ length area.old }
+    ensures { area.new ≡ over area.old at (command_bytes command.now) }
+{
+    write_bytes(area, at, &[command.verb, 0]);
+    command.origin.write_le(area, at + 2);
+    command.serial.write_le(area, at + 4);
+    command.a.write_le(area, at + 4 + SERIAL_BYTES);
+    command.b.write_le(area, at + 6 + SERIAL_BYTES);
 }

@@ -3,15 +3,15 @@
 #![tactic(auto)]
 
 mod areas;
-mod asking;
 mod checking;
 mod faults;
 mod journals;
 mod layout;
+mod parts;
 mod writing;
 
 pub use areas::AreaJournal;
-pub use faults::OpenFault;
+pub use faults::{NotOpened, OpenFault};
 pub use layout::SHORTEST;
 
 #[cfg(test)]
@@ -22,10 +22,7 @@ mod tests {
     use std::test::Fail;
 
     fn fault_of(area: Vec<u8>) -> Option<OpenFault> {
-        match AreaJournal::open(area) {
-            Ok(_) => None,
-            Err((_, fault)) => Some(fault),
-        }
+        AreaJournal::open(area).err().map(|refused| refused.fault)
     }
 
     #[test]
@@ -41,31 +38,39 @@ mod tests {
     }
 
     #[test]
+    fn a_fault_is_told_in_words(rt: HostRuntime) -> Result<(), Fail> {
+        let heap = rt.alloc();
+        let short = format!(in heap; "{}", OpenFault::NoRecord)?;
+        assert_eq!(rt;
+            short.as_str(),
+            "refused 12: the area has no space for a record"
+        );
+        let broken = format!(in heap; "{}", OpenFault::Broken { offset: 180 })?;
+        assert_eq!(rt;
+            broken.as_str(),
+            "refused 13 at 180: the part that begins here is broken"
+        );
+        Ok(())
+    }
+
+    #[test]
     fn a_settled_slot_is_told_after_opening_again(rt: HostRuntime) -> Result<(), Fail> {
         let add = Command {
             verb: 1,
-            origin: 0,
-            serial: 0,
             a: 3,
-            b: 0,
+            ..Command::NOOP
         };
-        let mut first = match AreaJournal::open(vec![in rt.alloc(); 0; 192]?) {
-            Ok(opened) => opened,
-            Err(_) => {
-                assert!(rt; false);
-                return Ok(())
-            },
+        let Ok(mut first) = AreaJournal::open(vec![in rt.alloc(); 0; 192]?) else {
+            assert!(rt; false);
+            return Ok(());
         };
         assert!(rt; first.promise(5));
         assert!(rt; first.put(1, 5, &add));
         assert!(rt; first.settle(&add));
         assert_eq!(rt; first.area()[168], 1);
-        let again = match AreaJournal::open(first.release()) {
-            Ok(opened) => opened,
-            Err(_) => {
-                assert!(rt; false);
-                return Ok(())
-            },
+        let Ok(again) = AreaJournal::open(first.release()) else {
+            assert!(rt; false);
+            return Ok(());
         };
         assert_eq!(rt; again.promised(), 5);
         assert_eq!(rt; again.settled_count(), 1);

@@ -1,10 +1,10 @@
 //! How chains are made and how settled commands change them.
 
 ghost use Rattle.command.specs.Chains.{answered, founding, refusal_number, after, after_all, chain_for};
-ghost use Rattle.command.specs.Members.{valid_chain, different_directors, is_member, place_of, added, removed};
+ghost use Rattle.command.specs.Members.{valid_chain, all_in, different_directors, is_member, place_of, added, removed};
 ghost use Rattle.command.specs.Places.{placed};
 ghost use Rattle.command.specs.Sets.{set_of};
-ghost use Rattle.std.specs.Prelude.{◌≡◌, ◌≤◌, length};
+ghost use Rattle.std.specs.Prelude.{◌≡◌, ◌≤◌, true, length};
 
 use crate::{Chain, Command, DirectorSet, InvalidChain, Verb};
 
@@ -35,9 +35,11 @@ impl Chain {
         })
     }
 
-    /// The members in the chain's order.
+    /// The members in the chain's order: 1 to 7 different directors, each of whom is among those who were ever members.
     pub fn members(&self) -> &[u8]
-        ensures { result.now ≡ self.now.members }
+        ensures members { result.now ≡ self.now.members }
+        ensures valid { valid_chain self.now.members ≡ true }
+        ensures known { all_in self.now.ever self.now.members ≡ true }
     {
         &self.places[0..self.count]
     }

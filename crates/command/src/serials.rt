@@ -1,9 +1,7 @@
 //! The serial of a command: its type, and with it its width in stored formats. Nothing else knows the width.
 
-use octets::Number;
-
 /// The type of a serial; `serial_bytes` in specs/Commands.antt tells the same width.
 pub type Serial = u32;
 
 /// How many bytes a stored serial takes.
-pub const SERIAL_BYTES: usize = Serial::BYTES;
+pub const SERIAL_BYTES: usize = size_of::<Serial>();

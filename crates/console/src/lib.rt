@@ -6,6 +6,7 @@ ghost use Rattle.std.specs.Prelude.{◌≡◌, IsErr, MatchResult, Ok};
 ghost use Rattle.console.specs.Endings.{status_of};
 
 use anyhow::anyhow;
+use std::fmt;
 use std::fmt::Display;
 use std::process::ExitCode;
 
@@ -19,16 +20,25 @@ pub fn status(outcome: anyhow::Result<()>) -> ExitCode
     }
 }
 
-/// Says on the error stream why the program ends. A line that cannot be printed ends it too.
-pub fn fail(rt: &impl Eprint, said: &impl Display) -> anyhow::Result<()>
-    ensures { IsErr result }
+/// What was done, or else its error, which is said on the error stream. A line that cannot be printed is an error too.
+pub fn or_fail<T: Drop, E: Display + Drop>(
+    rt: &impl Eprint,
+    program: &str,
+    done: Result<T, E>,
+) -> anyhow::Result<T>
+    ensures { MatchResult done (λ value. result ≡ Ok value) (λ _. IsErr result) }
 {
-    eprintln!(rt; "{said}")?;
-    Err(anyhow!("refused"))
+    match done {
+        Ok(value) => Ok(value),
+        Err(error) => {
+            eprintln!(rt; "{program}: {error}")?;
+            Err(anyhow!("refused"))
+        }
+    }
 }
 
-/// What was done with a file; where that failed, it is said with the names of the program and the file.
-pub fn or_say<T: Drop, E: Display + Drop>(
+/// What was done with a file, or else its error, which is said with the name of the file.
+pub fn or_fail_at<T: Drop, E: Display + Drop>(
     rt: &impl Eprint,
     program: &str,
     path: &str,
@@ -37,32 +47,51 @@ pub fn or_say<T: Drop, E: Display + Drop>(
     ensures { MatchResult done (λ value. result ≡ Ok value) (λ _. IsErr result) }
 {
     match done {
-        Ok(value) => Ok(value),
-        Err(error) => {
-            eprintln!(rt; "{program}: {path}: {error}")?;
-            Err(anyhow!("no such file"))
-        }
+        Ok(found) => Ok(found),
+        Err(error) => or_fail(rt, program, Err(AtFile { path, error })),
+    }
+}
+
+/// Says why the program ends.
+pub fn fail<E: Display>(rt: &impl Eprint, program: &str, said: &E) -> anyhow::Result<()>
+    ensures { IsErr result }
+{
+    or_fail(rt, program, Err(said))
+}
+
+// An error with the name of the file at which it came.
+#[derive(Drop)]
+struct AtFile<'a, E> {
+    path: &'a str,
+    error: E,
+}
+
+impl<E: Display> Display for AtFile<'_, E> {
+    fn fmt<W: fmt::Write>(&self, f: &mut fmt::Formatter<W>) -> fmt::Result {
+        write!(f, "{}: {}", self.path, self.error)
     }
 }
 
 #[cfg(test)]
 mod tests {
-    use crate::{fail, or_say, status};
+    use crate::{fail, or_fail, or_fail_at, status};
     use std::process::ExitCode;
     use std::test::Fail;
 
     #[test]
     fn what_was_done_goes_on(rt: HostRuntime) -> Result<(), Fail> {
         let done: Result<u8, &str> = Ok(7);
-        assert_eq!(rt; or_say(&rt, "year", "list", done)?, 7);
+        assert_eq!(rt; or_fail(&rt, "year", done)?, 7);
+        assert_eq!(rt; or_fail_at(&rt, "year", "list", done)?, 7);
         let not_done: Result<u8, &str> = Err("no such file");
-        assert!(rt; or_say(&rt, "year", "list", not_done).is_err());
+        assert!(rt; or_fail(&rt, "year", not_done).is_err());
+        assert!(rt; or_fail_at(&rt, "year", "list", not_done).is_err());
         Ok(())
     }
 
     #[test]
     fn a_refusal_ends_with_status_1(rt: HostRuntime) {
         assert!(rt; status(Ok(())) == ExitCode::SUCCESS);
-        assert!(rt; status(fail(&rt, &"year: refused 15 at 0")) == ExitCode::FAILURE);
+        assert!(rt; status(fail(&rt, "year", &"refused 15 at 0")) == ExitCode::FAILURE);
     }
 }

@@ -1,15 +1,16 @@
 //! A small area: made, written to, dumped, and broken.
 
-use crate::{fail, print, refusal};
+use crate::{PROGRAM, print};
 use area_journal::AreaJournal;
 use command::Command;
+use console::fail;
 use journal::Journal;
 
 /// Makes a small area, writes to it, dumps it, breaks one byte, and prints the refusal that opening then gives.
 pub(crate) fn run(rt: &HostRuntime) -> anyhow::Result<()> {
     let area = vec![in rt.alloc(); 0u8; 168 + 12 * 20]?;
     let Ok(mut journal) = AreaJournal::open(area) else {
-        return fail(rt, "dump: a new area did not open");
+        return fail(rt, PROGRAM, &"a new area did not open");
     };
     println!(rt; "a small area, written to:")?;
     write_some(&mut journal);
@@ -19,10 +20,9 @@ pub(crate) fn run(rt: &HostRuntime) -> anyhow::Result<()> {
         *byte = 7;
     }
     match AreaJournal::open(broken) {
-        Ok(_) => fail(rt, "dump: the broken area was opened"),
-        Err((_, fault)) => {
-            let said = refusal(rt.alloc(), fault)?;
-            println!(rt; "with one byte changed: {said}")?;
+        Ok(_) => fail(rt, PROGRAM, &"the broken area was opened"),
+        Err(refused) => {
+            println!(rt; "with one byte changed: {PROGRAM}: {refused}")?;
             Ok(())
         }
     }
@@ -39,22 +39,13 @@ fn write_some(journal: &mut AreaJournal) {
     };
     let remove = Command {
         verb: 2,
-        origin: 0,
-        serial: 0,
         a: 1,
-        b: 0,
-    };
-    let noop = Command {
-        verb: 0,
-        origin: 0,
-        serial: 0,
-        a: 0,
-        b: 0,
+        ..Command::NOOP
     };
     let _ = journal.promise(32);
     let _ = journal.put(1, 32, &weight);
     let _ = journal.settle(&weight);
-    let _ = journal.settle(&noop);
+    let _ = journal.settle(&Command::NOOP);
     let _ = journal.promise(65);
     let _ = journal.put(3, 65, &remove);
     let _ = journal.put(5, 65, &weight);

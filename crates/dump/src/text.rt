@@ -7,20 +7,21 @@ use std::alloc::Global;
 /// Capacity, promised ballot with its owner, settled count, open entries, settled commands.
 pub(crate) fn of<J: Journal>(heap: Global, journal: &J) -> Result<String, Fault> {
     let mut text = String::new(heap);
-    let capacity = journal.capacity();
     let promised = journal.promised();
-    let owner = promised % 32;
     let settled = journal.settled_count();
-    writeln!(text, "capacity {capacity}")?;
-    writeln!(text, "promised ballot {promised} of director {owner}")?;
+    writeln!(text, "capacity {}", journal.capacity())?;
+    writeln!(
+        text,
+        "promised ballot {promised} of director {}",
+        promised % 32
+    )?;
     writeln!(text, "settled {settled}")?;
     writeln!(text, "open, newest slot first:")?;
-    for back in 0..8u32 {
-        write_open(&mut text, journal, settled.saturating_add(8 - back))?;
+    for ahead in (1..=8).rev() {
+        write_open(&mut text, journal, settled + ahead)?;
     }
     writeln!(text, "settled, newest slot first:")?;
-    for back in 0..settled {
-        let slot = settled - back;
+    for slot in (1..=settled).rev() {
         write!(text, "  slot {slot}: ")?;
         write_entry(&mut text, &journal.settled(slot))?;
     }
@@ -30,11 +31,14 @@ pub(crate) fn of<J: Journal>(heap: Global, journal: &J) -> Result<String, Fault>
 // The open entry of a slot, unless it is blank.
 fn write_open<J: Journal>(text: &mut String, journal: &J, slot: u32) -> Result<(), Fault> {
     let entry = journal.open(slot);
-    if entry.ballot == 0 {
+    let ballot = entry.ballot;
+    if ballot == 0 {
         return Ok(());
     }
-    let ballot = entry.ballot;
-    let owner = ballot % 32;
-    write!(text, "  slot {slot}, ballot {ballot} of director {owner}: ")?;
+    write!(
+        text,
+        "  slot {slot}, ballot {ballot} of director {}: ",
+        ballot % 32
+    )?;
     write_entry(text, &entry.command)
 }

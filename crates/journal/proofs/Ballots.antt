@@ -1,5 +1,6 @@
 -- Ballots that were put into one slot, by their order in time.
-use Rattle.std.proofs.Common.{◌≡◌, ℕ, ◌≤◌, max, Bool, true, false, cond, ◌||◌, eqb, ltb, List, [], ◌∷◌, sym, refl, ap, ◌∙◌, arith}
+use Rattle.std.proofs.Common.{◌≡◌, ℕ, ◌≤◌, max, Bool, true, false, cond, ◌||◌, eqb, ltb, List, [], ◌∷◌, sym, ap, ◌∙◌, arith}
+use Rattle.std.proofs.Math.Bool.{or-true, or-false}
 use Rattle.std.proofs.lemmas.Bool.{and_parts, leb-true, lt-ltb}
 use Rattle.command.specs.declared.Command.{Command}
 use Rattle.journal.specs.declared.writes.Entry.{Entry}
@@ -49,25 +50,17 @@ high (Settle c ∷ ws) m n e t l =
     let h = high ws (after (Settle c) m) n e q.1 l in
     record { puts = h.puts; first = h.first }
 
-or_false : (b : Bool) → (b || false) ≡ b
-or_false true = refl
-or_false false = refl
-
-or_true : (b : Bool) → (b || true) ≡ true
-or_true true = refl
-or_true false = refl
-
 put_told : (t : Bool) (n b : ℕ) (c : Command) (e : Entry) (ws : List Write) → 1 ≤ b
     → ltb 0 (newest n (cond t (record { ballot = b; command = c }) e) ws).ballot
     ≡ (ltb 0 (cond t (record { ballot = b; command = c }) e).ballot || was_put n ws)
     → ltb 0 (newest n (cond t (record { ballot = b; command = c }) e) ws).ballot
     ≡ (ltb 0 e.ballot || (t || was_put n ws))
-put_told true n b c e ws l h = h ∙ ap (λ x. x || was_put n ws) (lt-ltb 0 b l) ∙ sym (or_true (ltb 0 e.ballot))
+put_told true n b c e ws l h = h ∙ ap (λ x. x || was_put n ws) (lt-ltb 0 b l) ∙ sym (or-true (ltb 0 e.ballot))
 put_told false n b c e ws l h = h
 
 told : (ws : List Write) (m : Meaning) (n : ℕ) (e : Entry) → all_taken m ws ≡ true
     → ltb 0 (newest n e ws).ballot ≡ (ltb 0 e.ballot || was_put n ws)
-told [] m n e t = sym (or_false (ltb 0 e.ballot))
+told [] m n e t = sym (or-false (ltb 0 e.ballot))
 told (Promise b ∷ ws) m n e t =
     told ws (after (Promise b) m) n e (and_parts (taken (Promise b) m) (all_taken (after (Promise b) m) ws) t).1
 told (Put k b c ∷ ws) m n e t =

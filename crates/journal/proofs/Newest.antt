@@ -1,15 +1,17 @@
 -- The open entry of a slot that is not settled is what the newest put into it left.
-use Rattle.std.proofs.Common.{◌≡◌, ℕ, ◌+◌, ◌%◌, ◌<◌, ◌≤◌, true, ◌&&◌, eqb, ltb, leb, List, [], ◌∷◌, length, get_or, set, sym, refl, ap, ◌∙◌, subst, inl, inr, arith, length-set}
-use Rattle.std.proofs.lemmas.Bool.{and_parts, and_from, and_right, cond-true, cond-false, eqb-true, leb-true, ltb-true, lt-ltb, le-leb, lt-leb, eq-eqb, ne_eqb, cases_lt, cases_eq}
+use Rattle.std.proofs.Common.{◌≡◌, ℕ, ◌+◌, ◌%◌, ◌<◌, ◌≤◌, true, eqb, List, [], ◌∷◌, length, get_or, set, sym, refl, ap, ◌∙◌, subst, inl, inr, arith, length-set}
+use Rattle.std.proofs.lemmas.Bool.{and_parts, cond-true, cond-false, eq-eqb, ne_eqb, cases_lt, cases_eq}
 use Rattle.std.proofs.lemmas.List.{get_or-set_same, get_or-set_other, get_or-replicate, length-append}
+use Rattle.std.proofs.lemmas.Bool.Decides.{nat_tests}
 use Rattle.command.specs.declared.Command.{Command}
 use Rattle.command.specs.Commands.{well_formed}
 use Rattle.journal.specs.declared.writes.Entry.{Entry}
 use Rattle.journal.specs.declared.writes.Write.{Write}
 use Rattle.journal.specs.declared.writes.Write.TheVariants.{Promise, Put, Settle}
-use Rattle.journal.specs.Windows.{in_window, element_at, place_of}
-use Rattle.journal.specs.Meaning.{Meaning, settled_count, fresh, blank, open_of, taken, after, step, replay}
+use Rattle.journal.specs.Windows.{element_at, place_of}
+use Rattle.journal.specs.Meaning.{Meaning, settled_count, fresh, blank, open_of, taken, after, replay}
 use Rattle.journal.specs.Laws.{all_taken, newest}
+use Rattle.journal.proofs.Histories.{step_taken}
 
 -- what was told of each slot so far: it stands in the open entries, and past the window nothing was
 record Holds (m : Meaning) (e : ℕ → Entry) : Type 0 where
@@ -29,19 +31,7 @@ pub record PutParts (k b : ℕ) (m : Meaning) : Type 0 where
 
 pub put_parts : (k b : ℕ) (c : Command) (m : Meaning) → taken (Put k b c) m ≡ true → PutParts k b m
 unfolding taken
-put_parts k b c m t =
-    let p = settled_count m in
-    let q = and_parts (eqb b m.promised && leb 1 b && in_window p k && leb k m.capacity) (well_formed c) t in
-    let r = and_parts (eqb b m.promised && leb 1 b && in_window p k) (leb k m.capacity) q.0 in
-    let s = and_parts (eqb b m.promised && leb 1 b) (in_window p k) r.0 in
-    let u = and_parts (eqb b m.promised) (leb 1 b) s.0 in
-    let v = and_parts (ltb p k) (leb k (p + 8)) s.1 in
-    record {
-      ballot = eqb-true b m.promised u.0;
-      some = leb-true 1 b u.1;
-      low = ltb-true p k v.0;
-      high = leb-true k (p + 8) v.1;
-    }
+put_parts k b c m t = grind (arith, nat_tests)
 
 -- a put that is taken fits the capacity, with a well-formed command
 pub record PutFits (k : ℕ) (c : Command) (m : Meaning) : Type 0 where
@@ -50,11 +40,7 @@ pub record PutFits (k : ℕ) (c : Command) (m : Meaning) : Type 0 where
 
 pub put_fits : (k b : ℕ) (c : Command) (m : Meaning) → taken (Put k b c) m ≡ true → PutFits k c m
 unfolding taken
-put_fits k b c m t =
-    let p = settled_count m in
-    let q = and_parts (eqb b m.promised && leb 1 b && in_window p k && leb k m.capacity) (well_formed c) t in
-    let r = and_parts (eqb b m.promised && leb 1 b && in_window p k) (leb k m.capacity) q.0 in
-    record { fits = leb-true k m.capacity r.1; formed = q.1 }
+put_fits k b c m t = grind (arith, nat_tests)
 
 -- two slots of one window have two places
 apart : (n k p : ℕ) → p < n → n ≤ p + 8 → p < k → k ≤ p + 8 → (k ≡ n → ⊥) → (n % 8 ≡ k % 8 → ⊥)
@@ -111,16 +97,9 @@ kept (Settle c) m e t h =
 opened : (m : Meaning) (e : ℕ → Entry) (n : ℕ) → Holds m e → settled_count m < n → open_of m n ≡ e n
 opened m e n h l =
     let p = settled_count m in
-    elim (cases_lt n (p + 9)) [
-      | inl inside ↦
-          cond-true (in_window p n) (element_at blank m.places n) blank
-          (and_from (ltb p n) (leb n (p + 8)) (lt-ltb p n l) (le-leb n (p + 8) (omega arith)))
-          ∙ h.told n l (omega arith)
-      | inr next ↦
-          cond-false (in_window p n) (element_at blank m.places n) blank
-          (and_right (ltb p n) (leb n (p + 8)) (lt-leb n (p + 8) (omega arith)))
-          ∙ sym (h.past n (omega arith))
-    ]
+    let inside : n < p + 9 → element_at blank m.places n ≡ e n = λ u. h.told n l (omega arith) in
+    let past : p + 9 ≤ n → e n ≡ blank = λ u. h.past n (omega arith) in
+    grind (arith, nat_tests)
 
 newest_step : (w : Write) (ws : List Write) (n : ℕ) (x : Entry)
     → newest n x (w ∷ ws) ≡ newest n (newest n x (w ∷ [])) ws
@@ -128,16 +107,12 @@ newest_step (Promise b) ws n x = refl
 newest_step (Put k b c) ws n x = refl
 newest_step (Settle c) ws n x = refl
 
-taken_step : (w : Write) (m : Meaning) → taken w m ≡ true → step w m ≡ after w m
-unfolding step
-taken_step w m t = cond-true (taken w m) (after w m) m t
-
 replayed : (ws : List Write) (m : Meaning) (e : ℕ → Entry) (n : ℕ) → all_taken m ws ≡ true → Holds m e
     → settled_count (replay m ws) < n → open_of (replay m ws) n ≡ newest n (e n) ws
 replayed [] m e n t h l = opened m e n h l
 replayed (w ∷ ws) m e n t h l =
     let q = and_parts (taken w m) (all_taken (after w m) ws) t in
-    let s = taken_step w m q.0 in
+    let s = step_taken w m q.0 in
     let l2 = subst (λ (x : Meaning). settled_count (replay x ws) < n) s l in
     ap (λ (x : Meaning). open_of (replay x ws) n) s
     ∙ replayed ws (after w m) (tells w e) n q.1 (kept w m e q.0 h) l2

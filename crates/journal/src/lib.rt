@@ -47,17 +47,34 @@ pub trait Journal {
     fn open(&self, slot: u32) -> Entry
         ensures { result ≡ open_of (meaning self.now) slot };
 
+    /// Makes a write if it is taken, and tells whether it was.
+    fn take(&mut self, write: Write) -> bool
+        ensures { Writes meaning behind write self.old self.new result };
+
     /// Promises a ballot that is not below the promised one.
-    fn promise(&mut self, ballot: u32) -> bool
-        ensures { Writes meaning behind (Promise ballot) self.old self.new result };
+    final fn promise(&mut self, ballot: u32) -> bool
+        ensures { Writes meaning behind (Promise ballot) self.old self.new result }
+    {
+        self.take(Write::Promise { ballot })
+    }
 
     /// Puts a command with the promised ballot into a slot of the window.
-    fn put(&mut self, slot: u32, ballot: u32, command: &Command) -> bool
-        ensures { Writes meaning behind (Put slot ballot command.now) self.old self.new result };
+    final fn put(&mut self, slot: u32, ballot: u32, command: &Command) -> bool
+        ensures { Writes meaning behind (Put slot ballot command.now) self.old self.new result }
+    {
+        self.take(Write::Put {
+            slot,
+            ballot,
+            command: *command,
+        })
+    }
 
     /// Settles a command in the next slot.
-    fn settle(&mut self, command: &Command) -> bool
-        ensures { Writes meaning behind (Settle command.now) self.old self.new result };
+    final fn settle(&mut self, command: &Command) -> bool
+        ensures { Writes meaning behind (Settle command.now) self.old self.new result }
+    {
+        self.take(Write::Settle { command: *command })
+    }
 
     ghost within: { (j : Self) → Within (meaning j) };
 }

@@ -24,14 +24,17 @@ impl Entry {
 /// A write of a journal.
 #[derive(Clone, Copy, PartialEq, Eq, Debug)]
 pub enum Write {
+    /// A ballot is promised.
     Promise {
         ballot: u32,
     },
+    /// A command is put into a slot of the window, with the promised ballot.
     Put {
         slot: u32,
         ballot: u32,
         command: Command,
     },
+    /// A command is settled in the next slot.
     Settle {
         command: Command,
     },
@@ -44,13 +47,5 @@ pub fn make_write<J: Journal>(journal: &mut J, write: &Write) -> bool
     ensures makes { Writes J.Journal.meaning J.Journal.behind write.now journal.old journal.new result }
     ensures laws { JournalLaws }
 {
-    match write {
-        Write::Promise { ballot } => journal.promise(*ballot),
-        Write::Put {
-            slot,
-            ballot,
-            command,
-        } => journal.put(*slot, *ballot, command),
-        Write::Settle { command } => journal.settle(command),
-    }
+    journal.take(*write)
 }

@@ -1,82 +1,62 @@
 -- Words, lines and numbers that were written are found again.
-use Rattle.std.proofs.Common.{◌≡◌, ℕ, ◌^◌, ◌<◌, ◌≤◌, Bool, true, false, not, ◌&&◌, eqb, leb, List, [], ◌∷◌, ◌++◌, map, length, get_or, Some, decimal, refl, ap, ◌∙◌, ⊎_elim, arith, rules}
+use Rattle.std.proofs.Common.{◌≡◌, ℕ, ◌^◌, ◌<◌, ◌≤◌, Bool, true, not, eqb, List, [], ◌∷◌, ◌++◌, map, length, get_or, Some, decimal, refl, ap, ◌∙◌, arith}
 use Rattle.std.specs.Str.{all_ascii_digits}
-use Rattle.std.specs.Char.{is_ascii_digit}
-use Rattle.std.proofs.lemmas.Str.Parse.{IsNumeralModel, numerals_by_fold}
+use Rattle.std.specs.List.{list_all}
+use Rattle.std.proofs.lemmas.List.Folds.{list_all-append}
+use Rattle.listing.proofs.Figures.{own}
 use Rattle.std.proofs.lemmas.Fmt.{digits_decimal, digits_value-decimal, decimal_nonempty, first_decimal, decimal_digit}
-use Rattle.std.proofs.lemmas.Bool.{and_parts, and_from, not-true, ne_eqb, not_from_false, leb-true, le-leb, cases_lt}
+use Rattle.std.proofs.lemmas.Bool.Decides.{nat_tests}
 use Rattle.std.proofs.lemmas.List.{append-nil}
-use Rattle.listing.specs.Pieces.{onto, lines, words}
-use Rattle.listing.specs.Numbers.{decimal_of, read_on, plain, numeral}
+use Rattle.listing.specs.Pieces.{lines, words}
+use Rattle.listing.specs.Numbers.{decimal_of, plain, numeral}
 use Rattle.listing.specs.Writing.{spaced}
 use Rattle.listing.proofs.Written.{decimal_is}
 
 -- b does not stand in the list
 abbrev pub lacks : ℕ → List ℕ → Bool
-lacks b [] = true
-lacks b (c ∷ cs) = not (eqb c b) && lacks b cs
+lacks b bs = list_all (λ c. not (eqb c b)) bs
 
 pub lacks_append : (b : ℕ) (xs ys : List ℕ) → lacks b xs ≡ true → lacks b ys ≡ true → lacks b (xs ++ ys) ≡ true
-lacks_append b [] ys p q = q
-lacks_append b (x ∷ xs) ys p q =
-    let h = and_parts (not (eqb x b)) (lacks b xs) p in
-    and_from _ _ h.0 (lacks_append b xs ys h.1 q)
+lacks_append b xs ys p q = grind (arith, list_all-append)
 
 pub words_one : (w : List ℕ) → lacks 32 w ≡ true → words w ≡ w ∷ []
 words_one [] h = refl
-words_one (c ∷ cs) h =
-    let p = and_parts (not (eqb c 32)) (lacks 32 cs) h in
-    rw (not-true _ p.0) (ap (onto c) (words_one cs p.1))
+words_one (c ∷ cs) h = grind (arith, nat_tests, words_one cs)
 
 pub words_first : (w rest : List ℕ) → lacks 32 w ≡ true → words (w ++ (32 ∷ rest)) ≡ w ∷ words rest
 words_first [] rest h = refl
-words_first (c ∷ cs) rest h =
-    let p = and_parts (not (eqb c 32)) (lacks 32 cs) h in
-    rw (not-true _ p.0) (ap (onto c) (words_first cs rest p.1))
+words_first (c ∷ cs) rest h = grind (arith, nat_tests, words_first cs rest)
 
 pub lines_first : (l rest : List ℕ) → lacks 10 l ≡ true → lines (l ++ (10 ∷ rest)) ≡ l ∷ lines rest
 lines_first [] rest h = refl
-lines_first (c ∷ cs) rest h =
-    let p = and_parts (not (eqb c 10)) (lacks 10 cs) h in
-    rw (not-true _ p.0) (ap (onto c) (lines_first cs rest p.1))
-
--- numbers: only digits, no needless zero, and the number itself
-own : IsNumeralModel (λ ds. all_ascii_digits ds ≡ true) (read_on 0)
-own = numerals_by_fold _ (search rules) read_on (search rules)
+lines_first (c ∷ cs) rest h = grind (arith, nat_tests, lines_first cs rest)
 
 digits_lack : (b : ℕ) (ds : List ℕ) → b < 48 → all_ascii_digits ds ≡ true → lacks b ds ≡ true
 digits_lack b [] h p = refl
-digits_lack b (d ∷ ds) h p =
-    let q = and_parts (is_ascii_digit d) (all_ascii_digits ds) p in
-    let e : eqb d b ≡ false = ne_eqb d b (λ s. below d b h s q.0) in
-    and_from _ _ (not_from_false _ e) (digits_lack b ds h q.1)
-  where
-    below : (d b : ℕ) → b < 48 → d ≡ b → is_ascii_digit d ≡ true → ⊥
-    below d b h s q = omega (arith, leb-true 48 d (and_parts (leb 48 d) (leb d 57) q).0)
+digits_lack b (d ∷ ds) h p = grind (arith, nat_tests, digits_lack b ds)
 
 pub decimal_lacks : (b n : ℕ) → b < 48 → n < 2 ^ 64 → lacks b (decimal_of n) ≡ true
 decimal_lacks b n h s = rw (decimal_is n s) (digits_lack b (decimal n) h (digits_decimal own n s))
 
-plain_from : (ds : List ℕ) → all_ascii_digits ds ≡ true → 0 < length ds → (get_or ds 0 0 ≡ 48 → length ds ≡ 1) → plain ds ≡ true
+plain_from : (ds : List ℕ) → all_ascii_digits ds ≡ true → 0 < length ds → (get_or ds 0 0 ≡ 48 → length ds ≡ 1) →
+    plain ds ≡ true
 plain_from [] p h z = absurd (omega arith)
 plain_from (d ∷ []) p h z = p
-plain_from (d ∷ e ∷ ds) p h z =
-    let n : eqb d 48 ≡ false = ne_eqb d 48 (λ s. omega (arith, z s)) in rw n p
-
-zero_once : (n : ℕ) → n ≤ 0 → length (decimal n) ≡ 1
-zero_once n h =
-    let e : n ≡ 0 = omega arith in
-    let t : 0 < 10 = omega arith in
-    ap (λ x. length (decimal x)) e ∙ ap length (decimal_digit 0 t)
+plain_from (d ∷ e ∷ ds) p h z = grind (arith, nat_tests)
 
 pub numeral_back : (max n : ℕ) → n ≤ max → n < 2 ^ 64 → numeral max (decimal_of n) ≡ Some n
 numeral_back max n h s =
-    let v = digits_value-decimal own n s in
-    let p : plain (decimal n) ≡ true =
-    plain_from (decimal n) (digits_decimal own n s) (decimal_nonempty n s)
-    (λ z. ⊎_elim (λ l. absurd (omega (arith, first_decimal n l s)))
-    (λ g. zero_once n (omega (arith, g))) (cases_lt 0 n)) in
-    rw (decimal_is n s, p, v, le-leb n max h) refl
+    grind (
+      arith,
+      nat_tests,
+      plain_from,
+      decimal_is,
+      digits_decimal own,
+      digits_value-decimal own,
+      decimal_nonempty,
+      first_decimal,
+      decimal_digit,
+    )
 
 -- numbers that are small enough, and the words that they make
 abbrev pub Small : List ℕ → Type 0

@@ -1,89 +1,56 @@
--- Cutting a list at the first mark gives its first line or word, and the rest gives the others.
-use Rattle.std.proofs.Common.{◌≡◌, ℕ, suc, ◌+◌, ◌-◌, ◌<◌, ◌≤◌, true, false, cond, eqb, List, [], ◌∷◌, length, get_or, take, drop, sym, refl, ap, ◌∙◌, ⊎_elim, add-one, arith}
-use Rattle.std.proofs.lemmas.Bool.{cases_Bool, cond-true, cond-false, eq-eqb, ne_eqb, eqb-true, false≢true}
-use Rattle.std.proofs.lemmas.List.{at_drop_more, at_drop_all, take_all, drop_all, take_rest, nil_from_length}
-use native.Mathlib.Nat.{sub-zero}
-use Rattle.listing.specs.Pieces.{onto, lines, words, place_of}
+-- Cutting bytes at the first mark gives their first piece, and the rest gives the others.
+use Rattle.std.proofs.Common.{◌≡◌, ◌≢◌, MatchOption, ℕ, get_or, ◌+◌, ◌-◌, ◌<◌, ◌≤◌, false, eqb, List, [], ◌∷◌, ◌++◌, length, take, drop, Some, None, Option, sym, refl, ap, ◌∙◌, arith}
+use Rattle.std.specs.List.{position, position_or_len}
+use Rattle.std.proofs.lemmas.List.Splits.{slice_split_first}
+use Rattle.std.proofs.lemmas.Bool.Decides.{nat_tests}
+use Rattle.std.proofs.lemmas.Bool.{ne_eqb}
+use Rattle.std.proofs.lemmas.List.{take_rest, take_more, take_all}
+use Rattle.std.specs.Borrow.{Bor}
+use Rattle.std.specs.Option.{unwrap_or}
+use Rattle.listing.specs.Pieces.{lines, pieces}
 
-pub place_of_le : (b : ℕ) (cs : List ℕ) → place_of b cs ≤ length cs
-place_of_le b [] = omega arith
-place_of_le b (c ∷ cs) =
-    let ih = place_of_le b cs in
-    ⊎_elim (λ e. rw e (omega arith)) (λ e. rw e (omega arith)) (cases_Bool (eqb c b))
+-- the first mark is at place k, or there is none
+pub piece_some : (m k : ℕ) (bs : List ℕ) → Some k ≡ position (λ b. eqb b m) bs →
+    pieces m bs ≡ take k bs ∷ pieces m (take (length bs - (k + 1)) (drop (k + 1) bs))
+piece_some m k bs e = grind (arith, nat_tests, slice_split_first, take_rest)
 
-pub lines_cut : (c : ℕ) (cs : List ℕ) →
-    lines (c ∷ cs) ≡ take (place_of 10 (c ∷ cs)) (c ∷ cs) ∷ lines (drop (suc (place_of 10 (c ∷ cs))) (c ∷ cs))
-lines_cut c [] = ⊎_elim (λ e. rw e refl) (λ e. rw e refl) (cases_Bool (eqb c 10))
-lines_cut c (d ∷ ds) = ⊎_elim (λ e. rw e refl) (λ e. rw e (ap (onto c) (lines_cut d ds))) (cases_Bool (eqb c 10))
+one_piece : (m : ℕ) (bs : List ℕ) → length bs ≤ position_or_len (λ b. eqb b m) bs → pieces m bs ≡ bs ∷ []
+one_piece m [] h = refl
+one_piece m (b ∷ bs) h = grind (arith, nat_tests, one_piece m bs)
 
-pub words_last : (cs : List ℕ) → place_of 32 cs ≡ length cs → words cs ≡ cs ∷ []
-words_last [] h = refl
-words_last (c ∷ cs) h =
-    ⊎_elim (λ e. absurd (omega (arith, rw e at h))) (λ e. rw e (ap (onto c) (words_last cs (omega (arith, rw e at h)))))
-    (cases_Bool (eqb c 32))
+pub piece_none : (m : ℕ) (bs : List ℕ) → None ≡ position (λ b. eqb b m) bs → pieces m bs ≡ bs ∷ []
+piece_none m bs e = grind (arith, nat_tests, one_piece)
 
-pub words_cut : (cs : List ℕ) → place_of 32 cs < length cs →
-    words cs ≡ take (place_of 32 cs) cs ∷ words (drop (suc (place_of 32 cs)) cs)
-words_cut [] h = absurd (omega arith)
-words_cut (c ∷ cs) h =
-    ⊎_elim (λ e. rw e refl) (λ e. rw e (ap (onto c) (words_cut cs (omega (arith, rw e at h)))))
-    (cases_Bool (eqb c 32))
+-- the lines of a text are the pieces of it without its last end
+pub lines_none : (bs : List ℕ) → length bs < 1 → lines bs ≡ []
+lines_none [] h = refl
+lines_none (b ∷ bs) h = absurd (omega arith)
 
--- the search for a mark that was not among the first i bytes: here, further on, and not at all
-pub place_here : (b i : ℕ) (cs : List ℕ) → i < length cs → get_or cs i 0 ≡ b →
-    place_of b cs ≡ i + place_of b (drop i cs) → i ≡ place_of b cs
-place_here b i cs l e h =
-    let m : place_of b (drop i cs) ≡ cond (eqb (get_or cs i 0) b) 0 (suc (place_of b (drop (i + 1) cs)))
-    = at_drop_more (place_of b) cs i 0 l in
-    let z : place_of b (drop i cs) ≡ 0 = m ∙ cond-true _ _ _ (eq-eqb _ _ e) in
-    omega arith
+lines_ended : (bs : List ℕ) → lines (bs ++ 10 ∷ []) ≡ pieces 10 bs
+lines_ended [] = refl
+lines_ended (b ∷ bs) = grind (arith, lines_ended bs)
 
-pub place_more : (b i : ℕ) (cs : List ℕ) → i < length cs → (get_or cs i 0 ≡ b → ⊥) →
-    place_of b cs ≡ i + place_of b (drop i cs) → place_of b cs ≡ (i + 1) + place_of b (drop (i + 1) cs)
-place_more b i cs l e h =
-    let m : place_of b (drop i cs) ≡ cond (eqb (get_or cs i 0) b) 0 (suc (place_of b (drop (i + 1) cs)))
-    = at_drop_more (place_of b) cs i 0 l in
-    let z : place_of b (drop i cs) ≡ suc (place_of b (drop (i + 1) cs)) = m ∙ cond-false _ _ _ (ne_eqb _ _ e) in
-    omega arith
+lines_open : (bs : List ℕ) (b : ℕ) → eqb b 10 ≡ false → lines (bs ++ b ∷ []) ≡ pieces 10 (bs ++ b ∷ [])
+lines_open [] b h = grind (arith, nat_tests)
+lines_open (c ∷ bs) b h = grind (arith, nat_tests, lines_open bs b)
 
-pub place_none : (b i : ℕ) (cs : List ℕ) → i ≤ length cs → length cs ≤ i →
-    place_of b cs ≡ i + place_of b (drop i cs) → length cs ≡ place_of b cs
-place_none b i cs l g h =
-    let z : place_of b (drop i cs) ≡ 0 = at_drop_all (place_of b) cs i g in omega arith
+front_last : (bs : List ℕ) → 1 ≤ length bs →
+    bs ≡ take (length bs - 1) bs ++ get_or bs (length bs - 1) 0 ∷ []
+front_last bs h =
+    let k : length bs - 1 + 1 ≡ length bs = omega arith in
+    sym (take_all (length bs - 1 + 1) bs (omega arith)) ∙ take_more bs (length bs - 1) 0 (omega arith)
 
--- what a cursor does at the place k of the mark
-pub line_none : (cs : List ℕ) → true ≡ eqb (length cs) 0 → lines cs ≡ []
-line_none cs e = rw (nil_from_length cs (eqb-true _ _ (sym e))) refl
-
-pub line_last : (cs : List ℕ) (k : ℕ) → false ≡ eqb (length cs) 0 → k ≡ place_of 10 cs → k ≡ length cs →
-    lines cs ≡ cs ∷ lines (take (length cs - k) (drop k cs))
-line_last [] k e p q = absurd (false≢true e)
-line_last (c ∷ cs) k e p q =
-    let f : take k (c ∷ cs) ≡ c ∷ cs = take_all k (c ∷ cs) (omega arith) in
-    let g : drop (suc k) (c ∷ cs) ≡ [] = drop_all (suc k) (c ∷ cs) (omega arith) in
-    let h : drop k (c ∷ cs) ≡ [] = drop_all k (c ∷ cs) (omega arith) in
-    let m = lines_cut c cs in
-    rw (take_rest (c ∷ cs) k, h) (rw (← p, f, g) at m)
-
-pub line_next : (cs : List ℕ) (k : ℕ) → k ≡ place_of 10 cs → k < length cs →
-    lines cs ≡ take (k - 0) cs ∷ lines (take (length cs - (k + 1)) (drop (k + 1) cs))
-line_next [] k p q = absurd (omega arith)
-line_next (c ∷ cs) k p q =
-    let m = lines_cut c cs in rw (sub-zero k, take_rest (c ∷ cs) (k + 1), add-one k) (rw (← p) at m)
-
-pub word_next : (cs : List ℕ) (k : ℕ) → k ≡ place_of 32 cs → k < length cs →
-    words cs ≡ take (k - 0) cs ∷ words (take (length cs - (k + 1)) (drop (k + 1) cs))
-word_next cs k p q =
-    let m = words_cut cs (omega arith) in rw (sub-zero k, take_rest cs (k + 1), add-one k) (rw (← p) at m)
+pub lines_stripped : (text : Bor (List ℕ)) (r : Option (Bor (List ℕ))) → 1 ≤ length text.now →
+    MatchOption r ((front : List ℕ) → text.now ≢ front ++ 10 ∷ []) (λ x. text.now ≡ x.now ++ 10 ∷ []) →
+    lines text.now ≡ pieces 10 (unwrap_or r text).now
+lines_stripped text (Some x) h e = ap lines e ∙ lines_ended x.now
+lines_stripped text None h n =
+    let k = length text.now - 1 in
+    let s = front_last text.now h in
+    ap lines s ∙ lines_open (take k text.now) _ (ne_eqb _ _ (λ e. n (take k text.now)
+    (s ∙ ap (λ b. take k text.now ++ b ∷ []) e))) ∙ ap (pieces 10) (sym s)
 
 -- a text has no more lines than bytes
-length_onto : (c : ℕ) (ps : List (List ℕ)) → length (onto c ps) ≤ suc (length ps)
-length_onto c [] = omega arith
-length_onto c (p ∷ ps) = omega arith
-
-pub length_lines : (cs : List ℕ) → length (lines cs) ≤ length cs
+pub length_lines : (bs : List ℕ) → length (lines bs) ≤ length bs
 length_lines [] = omega arith
-length_lines (c ∷ cs) =
-    let ih = length_lines cs in
-    let o = length_onto c (lines cs) in
-    ⊎_elim (λ e. rw e (omega arith)) (λ e. rw e (omega arith)) (cases_Bool (eqb c 10))
+length_lines (b ∷ bs) = grind (arith, nat_tests, length_lines bs)

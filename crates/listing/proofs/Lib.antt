@@ -1,5 +1,6 @@
 pub mod Cutting
 pub mod Figures
+pub mod Fields
 pub mod Lined
 pub mod Whole
 pub mod Written

@@ -1,48 +1,35 @@
 -- A line's command by its first word.
-use Rattle.std.proofs.Common.{◌≡◌, ℕ, Bool, true, false, List, [], ◌∷◌, None, codes, sym, ap, ◌∙◌}
-use Rattle.std.specs.Str.{bytes_eq}
-use Rattle.std.proofs.lemmas.Bool.{cond-true, cond-false}
+use Rattle.std.proofs.Common.{◌≡◌, ℕ, false, List, [], ◌∷◌, None, codes, sym, refl, ap, ◌∙◌, arith, rules}
+use Rattle.std.specs.Str.{bytes_eq, IsUtf8}
+use Rattle.std.proofs.lemmas.Slice.Eq.{bytes_eq-Decides}
 use Rattle.listing.specs.Pieces.{words}
-use Rattle.listing.specs.Reading.{read_entry, entry_of, ended, member_of, change_of, command}
-
--- a word that was compared with p, and the answer
-pub word_told : (w p q : List ℕ) (t : Bool) → q ≡ p → t ≡ bytes_eq w q → bytes_eq w p ≡ t
-word_told w p q t e h = ap (bytes_eq w) (sym e) ∙ sym h
-
-pub entry_from : (line w : List ℕ) (all ws : List (List ℕ)) → all ≡ words line → all ≡ w ∷ ws →
-    read_entry line ≡ entry_of (w ∷ ws)
-unfolding read_entry
-entry_from line w all ws p q = ap entry_of (sym p ∙ q)
+use Rattle.listing.specs.Reading.{read_entry, entry_of}
 
 pub entry_none : (line : List ℕ) (all : List (List ℕ)) → all ≡ words line → all ≡ [] → read_entry line ≡ None
 unfolding read_entry
 entry_none line all p q = ap entry_of (sym p ∙ q)
 
-pub entry_noop : (w : List ℕ) (ws : List (List ℕ)) → bytes_eq w (codes "noop") ≡ true →
-    entry_of (w ∷ ws) ≡ ended ws (command 0 0 0 0 0)
-entry_noop w ws p = cond-true _ _ _ p
+entry_from : (line w : List ℕ) (all ws : List (List ℕ)) → all ≡ words line → all ≡ w ∷ ws →
+    read_entry line ≡ entry_of (w ∷ ws)
+unfolding read_entry
+entry_from line w all ws p q = ap entry_of (sym p ∙ q)
 
-pub entry_add : (w : List ℕ) (ws : List (List ℕ)) → bytes_eq w (codes "noop") ≡ false →
-    bytes_eq w (codes "add") ≡ true →
-    entry_of (w ∷ ws) ≡ member_of 1 ws
-entry_add w ws p q = cond-false _ _ _ p ∙ cond-true _ _ _ q
+-- the first word, as text, is x
+pub entry_word : (line w t x : List ℕ) (all ws : List (List ℕ)) → all ≡ words line → all ≡ w ∷ ws → t ≡ w → t ≡ x →
+    entry_of (x ∷ ws) ≡ read_entry line
+entry_word line w t x all ws p q s e = ap (λ v. entry_of (v ∷ ws)) (sym e ∙ s) ∙ sym (entry_from line w all ws p q)
 
-pub entry_remove : (w : List ℕ) (ws : List (List ℕ)) → bytes_eq w (codes "noop") ≡ false →
-    bytes_eq w (codes "add") ≡ false →
-    bytes_eq w (codes "remove") ≡ true → entry_of (w ∷ ws) ≡ member_of 2 ws
-entry_remove w ws p q s =
-    cond-false _ _ _ p ∙ cond-false _ _ _ q ∙ cond-true _ _ _ s
+differs : (w p : List ℕ) → (w ≡ p → ⊥) → bytes_eq w p ≡ false
+differs w p n = grind (arith, bytes_eq-Decides)
 
-pub entry_change : (w : List ℕ) (ws : List (List ℕ)) → bytes_eq w (codes "noop") ≡ false →
-    bytes_eq w (codes "add") ≡ false →
-    bytes_eq w (codes "remove") ≡ false → bytes_eq w (codes "change") ≡ true → entry_of (w ∷ ws) ≡ change_of ws
-entry_change w ws p q s t =
-    cond-false _ _ _ p ∙ cond-false _ _ _ q ∙
-    cond-false _ _ _ s ∙ cond-true _ _ _ t
+pub entry_other : (line w t : List ℕ) (all ws : List (List ℕ)) → all ≡ words line → all ≡ w ∷ ws → t ≡ w →
+    (t ≡ codes "noop" → ⊥) → (t ≡ codes "add" → ⊥) → (t ≡ codes "remove" → ⊥) → (t ≡ codes "change" → ⊥) →
+    None ≡ read_entry line
+entry_other line w t all ws p q s n a r c = rw (entry_from line w all ws p q, ← s) (grind (arith, differs))
 
-pub entry_other : (w : List ℕ) (ws : List (List ℕ)) → bytes_eq w (codes "noop") ≡ false →
-    bytes_eq w (codes "add") ≡ false →
-    bytes_eq w (codes "remove") ≡ false → bytes_eq w (codes "change") ≡ false → entry_of (w ∷ ws) ≡ None
-entry_other w ws p q s t =
-    cond-false _ _ _ p ∙ cond-false _ _ _ q ∙
-    cond-false _ _ _ s ∙ cond-false _ _ _ t
+-- the first word is no text
+pub entry_untold : (line w : List ℕ) (all ws : List (List ℕ)) → all ≡ words line → all ≡ w ∷ ws → (IsUtf8 w → ⊥) →
+    None ≡ read_entry line
+entry_untold line w all ws p q n =
+    entry_other line w w all ws p q refl (λ e. n (rw e (search rules))) (λ e. n (rw e (search rules)))
+    (λ e. n (rw e (search rules))) (λ e. n (rw e (search rules)))

@@ -1,18 +1,22 @@
 -- A whole list, line by line.
-use Rattle.std.proofs.Common.{◌≡◌, ℕ, ◌+◌, ◌<◌, Bool, true, false, cond, not, ◌&&◌, leb, List, [], ◌∷◌, ◌++◌, map, length, Some, None, Ok, Err, codes, Option, Result, sym, refl, ap, ◌∙◌, ⊎_elim, append_assoc, arith}
+use Rattle.std.proofs.Common.{◌≡◌, ℕ, ◌+◌, ◌<◌, ◌≤◌, Bool, true, cond, not, List, [], ◌∷◌, ◌++◌, map, length, Some, None, Ok, Err, codes, Option, Result, sym, refl, ap, ◌∙◌, arith}
 use Rattle.command.specs.declared.Command.{Command}
 use Rattle.command.specs.Commands.{well_formed}
 use Rattle.command.specs.Chains.{founding}
-use Rattle.command.specs.Members.{Membership, valid_chain, founded, different_directors, is_member}
+use Rattle.command.specs.Members.{Membership, valid_chain, different_directors, is_member}
 use Rattle.listing.specs.declared.faults.Fault.{Fault}
 use Rattle.listing.specs.declared.faults.Fault.TheVariants.{InvalidChain, IllFormed, Unreadable, Memory}
-use Rattle.listing.specs.Answers.{is_memory, director_byte, members_told, chain_told}
-use Rattle.std.proofs.lemmas.Bool.{cond-true, cond-false, cases_Bool, false≢true}
+use Rattle.listing.specs.Answers.{is_memory, as_byte, members_told, chain_told}
+use Rattle.std.proofs.lemmas.Grind.{common_steps}
+use Rattle.std.proofs.lemmas.Bool.Decides.{nat_tests}
 use Rattle.std.proofs.lemmas.List.{append-nil, length-map}
-use Rattle.listing.specs.Reading.{max16, then, entries_from, judged, before, directors, some_directors}
-use Rattle.listing.specs.Reading.{read_entry, read_chain, read_text, chain_of, listed, chained, read_lines}
+use Rattle.listing.specs.Reading.{max16, then, entries_from, before, directors, some_directors}
+use Rattle.listing.specs.Reading.{read_entry, read_chain, read_text, listed, chained, read_lines}
 use Rattle.listing.specs.Pieces.{words, lines}
 use Rattle.std.specs.Str.{bytes_eq}
+use Rattle.std.specs.Option.{option_eq}
+use Rattle.std.specs.Iterator.{YieldsFirstRef}
+use Rattle.std.specs.Borrow.{Bor}
 use Rattle.listing.specs.Numbers.{numeral}
 
 -- the commands read so far, and then the others
@@ -23,7 +27,7 @@ after cs (Err f) = Err f
 -- the bytes read so far, and then the others
 abbrev pub bytes : Option (List ℕ) → Option (List ℕ)
 bytes None = None
-bytes (Some ds) = Some (map director_byte ds)
+bytes (Some ds) = Some (map as_byte ds)
 
 abbrev pub after_bytes : List ℕ → Option (List ℕ) → Option (List ℕ)
 after_bytes bs None = None
@@ -31,79 +35,54 @@ after_bytes bs (Some cs) = Some (bs ++ cs)
 
 after_push : (cs : List Command) (c : Command) (r : Result (List Command) Fault) →
     after cs (before c r) ≡ after (cs ++ (c ∷ [])) r
-after_push cs c (Ok ds) = ap Ok (sym (append_assoc cs (c ∷ []) ds))
+after_push cs c (Ok ds) = grind (arith, common_steps)
 after_push cs c (Err f) = refl
 
 pub entries_more : (n : ℕ) (l : List ℕ) (all ls : List (List ℕ)) (c : Command) (cs es : List Command)
     (o : Result (List Command) Fault) → Some c ≡ read_entry l → true ≡ well_formed c → all ≡ l ∷ ls →
     es ≡ cs ++ (c ∷ []) → o ≡ after cs (entries_from n all) → o ≡ after es (entries_from (n + 1) ls)
-entries_more n l all ls c cs es o p q s t e =
-    let u : judged n (read_entry l) (entries_from (n + 1) ls) ≡ judged n (Some c) (entries_from (n + 1) ls)
-    = ap (λ x. judged n x (entries_from (n + 1) ls)) (sym p) in
-    let v : judged n (Some c) (entries_from (n + 1) ls) ≡ before c (entries_from (n + 1) ls)
-    = cond-true (well_formed c) (before c (entries_from (n + 1) ls)) (Err (IllFormed n)) (sym q) in
-    e ∙ ap (λ x. after cs (entries_from n x)) s ∙ ap (after cs) (u ∙ v) ∙ after_push cs c (entries_from (n + 1) ls) ∙
-    ap (λ x. after x (entries_from (n + 1) ls)) (sym t)
+entries_more n l all ls c cs es o p q s t e = grind (arith, after_push)
+
+pub entries_end : (n : ℕ) (all left : List (List ℕ)) (cs : List Command) → left ≡ [] →
+    entries_from 2 all ≡ after cs (entries_from n left) → Ok cs ≡ entries_from 2 all
+entries_end n all left cs e h = grind (arith, append-nil {A = Command})
 
 after_bytes_push : (bs : List ℕ) (d : ℕ) (o : Option (List ℕ)) →
-    after_bytes bs (bytes (then o (λ ds. Some (d ∷ ds)))) ≡ after_bytes (bs ++ (director_byte d ∷ [])) (bytes o)
+    after_bytes bs (bytes (then o (λ ds. Some (d ∷ ds)))) ≡ after_bytes (bs ++ (as_byte d ∷ [])) (bytes o)
 after_bytes_push bs d None = refl
-after_bytes_push bs d (Some ds) = ap Some (sym (append_assoc bs (director_byte d ∷ []) (map director_byte ds)))
+after_bytes_push bs d (Some ds) = grind (arith, common_steps)
 
 pub directors_more : (w : List ℕ) (all ws : List (List ℕ)) (d b : ℕ) (bs cs : List ℕ) (o : Option (List ℕ)) →
-    Some d ≡ numeral max16 w → all ≡ w ∷ ws → b ≡ director_byte d → cs ≡ bs ++ (b ∷ []) →
+    Some d ≡ numeral max16 w → all ≡ w ∷ ws → b ≡ as_byte d → cs ≡ bs ++ (b ∷ []) →
     o ≡ after_bytes bs (bytes (directors all)) → o ≡ after_bytes cs (bytes (directors ws))
-directors_more w all ws d b bs cs o p s q t e =
-    let f : Option ℕ → Option (List ℕ) = λ x. then x (λ n. then (directors ws) (λ ds. Some (n ∷ ds))) in
-    e ∙ ap (λ x. after_bytes bs (bytes (directors x))) s ∙ ap (λ x. after_bytes bs (bytes (f x))) (sym p) ∙
-    after_bytes_push bs d (directors ws) ∙
-    ap (λ x. after_bytes (bs ++ (x ∷ [])) (bytes (directors ws))) (sym q) ∙
-    ap (λ x. after_bytes x (bytes (directors ws))) (sym t)
+directors_more w all ws d b bs cs o p q s t e = grind (arith, after_bytes_push)
 
 pub directors_stop : (w : List ℕ) (all ws : List (List ℕ)) (bs : List ℕ) (o : Option (List ℕ)) →
     None ≡ numeral max16 w → all ≡ w ∷ ws → bytes o ≡ after_bytes bs (bytes (directors all)) →
     Err (Unreadable 1) ≡ members_told o
-directors_stop w all ws bs o p s e =
-    let f : Option ℕ → Option (List ℕ) = λ x. then x (λ n. then (directors ws) (λ ds. Some (n ∷ ds))) in
-    none_told o (e ∙ ap (λ x. after_bytes bs (bytes (directors x))) s ∙ ap (λ x. after_bytes bs (bytes (f x))) (sym p))
-  where
-    none_told : (o : Option (List ℕ)) → bytes o ≡ None → Err (Unreadable 1) ≡ members_told o
-    none_told None e = refl
-    none_told (Some ds) e = let z : ◌≡◌ {A = ℕ} 0 1 = cc in absurd (omega arith)
+directors_stop w all ws bs None p s e = refl
+directors_stop w all ws bs (Some ds) p s e = grind arith
 
 pub members_end : (all : List (List ℕ)) (bs : List ℕ) (left : List (List ℕ)) → left ≡ [] →
     bytes (directors all) ≡ after_bytes bs (bytes (directors left)) → Ok bs ≡ members_told (directors all)
-members_end all bs left s e =
-    some_told (directors all) (e ∙ ap (λ x. after_bytes bs (bytes (directors x))) s ∙ ap Some (append-nil bs))
-  where
-    some_told : (o : Option (List ℕ)) → bytes o ≡ Some bs → Ok bs ≡ members_told o
-    some_told None e = let z : ◌≡◌ {A = ℕ} 0 1 = cc in absurd (omega arith)
-    some_told (Some ds) e = cc
+members_end all bs left s e = grind (arith, append-nil {A = ℕ})
 
 -- a chain as it was made, with the fault for its refusal
 abbrev pub from_number : Result Membership ℕ → Result Membership Fault
 from_number (Ok m) = Ok m
 from_number (Err n) = Err InvalidChain
 
-third : (a b c : Bool) → (a && b && c) ≡ true → c ≡ true
-third true true c h = h
-third true false c h = absurd (false≢true h)
-third false b c h = absurd (false≢true h)
+pub director_first : (m : ℕ) (ms : List ℕ) → different_directors (m ∷ ms) ≡ true →
+    (m ≤ 31) × (different_directors ms ≡ true)
+director_first m ms h = grind (arith, nat_tests)
 
 -- the first line: its first word, and whether any follows
-pub chain_none : (line : List ℕ) (all : List (List ℕ)) → all ≡ words line → all ≡ [] → read_chain line ≡ None
+pub chain_word : (line : List ℕ) (all ws : List (List ℕ)) (r : Option (Bor (List ℕ))) (chain : Bor (List ℕ))
+    (b : Bool) → all ≡ words line → YieldsFirstRef (λ ps. ps) all r ws → chain.now ≡ codes "chain" →
+    b ≡ not (option_eq (λ x y. bytes_eq x.now y.now) r (Some chain)) → read_chain line ≡ cond b None (some_directors ws)
 unfolding read_chain
-chain_none line all p q = ap chain_of (sym p ∙ q)
-
-pub chain_from : (line w : List ℕ) (all ws : List (List ℕ)) → all ≡ words line → all ≡ w ∷ ws →
-    bytes_eq w (codes "chain") ≡ true → read_chain line ≡ some_directors ws
-unfolding read_chain
-chain_from line w all ws p q t = ap chain_of (sym p ∙ q) ∙ cond-true _ _ _ t
-
-pub chain_other : (line w : List ℕ) (all ws : List (List ℕ)) → all ≡ words line → all ≡ w ∷ ws →
-    bytes_eq w (codes "chain") ≡ false → read_chain line ≡ None
-unfolding read_chain
-chain_other line w all ws p q t = ap chain_of (sym p ∙ q) ∙ cond-false _ _ _ t
+chain_word line all ws None chain b p s q h = rw (h, ← p, s.0) refl
+chain_word line all ws (Some w) chain b p s q h = rw (← p, s, h, q) (grind arith)
 
 pub some_directors_is : (ws : List (List ℕ)) → 0 < length ws → some_directors ws ≡ directors ws
 some_directors_is [] h = absurd (omega arith)
@@ -114,61 +93,25 @@ no_directors [] h = refl
 no_directors (w ∷ ws) h = absurd (omega arith)
 
 -- bytes make a chain where the directors do, and the same one
-bytes_same : (ms : List ℕ) → different_directors ms ≡ true → map director_byte ms ≡ ms
+bytes_same : (ms : List ℕ) → different_directors ms ≡ true → map as_byte ms ≡ ms
 bytes_same [] h = refl
-bytes_same (m ∷ ms) h =
-    let d = third (leb m 31) (not (is_member m ms)) (different_directors ms) h in
-    ⊎_elim (λ e. rw (cond-true (leb m 31) m 255 e, bytes_same ms d) refl)
-    (λ e. absurd (false≢true (rw e at h))) (cases_Bool (leb m 31))
+bytes_same (m ∷ ms) h = grind (arith, nat_tests, bytes_same ms)
 
-bytes_differ : (ms : List ℕ) → different_directors (map director_byte ms) ≡ different_directors ms
+byte_among : (d : ℕ) → d ≤ 31 → (ms : List ℕ) → is_member d (map as_byte ms) ≡ is_member d ms
+byte_among d h [] = refl
+byte_among d h (m ∷ ms) = grind (arith, nat_tests, byte_among d h ms)
+
+bytes_differ : (ms : List ℕ) → different_directors (map as_byte ms) ≡ different_directors ms
 bytes_differ [] = refl
-bytes_differ (m ∷ ms) =
-    ⊎_elim
-    (λ e. ⊎_elim
-    (λ d. let b : director_byte m ≡ m = cond-true (leb m 31) m 255 e in rw (b, bytes_same ms d) refl)
-    (λ d. let b : director_byte m ≡ m = cond-true (leb m 31) m 255 e in
-    let f : different_directors (map director_byte ms) ≡ false = bytes_differ ms ∙ d in
-    rw (b, f, d) (both (leb m 31) _ _))
-    (cases_Bool (different_directors ms)))
-    (λ e. let b : director_byte m ≡ 255 = cond-false (leb m 31) m 255 e in rw (b, e) refl) (cases_Bool (leb m 31))
-  where
-    both : (c a b : Bool) → (c && a && false) ≡ (c && b && false)
-    both true true true = refl
-    both true true false = refl
-    both true false true = refl
-    both true false false = refl
-    both false a b = refl
+bytes_differ (m ∷ ms) = grind (arith, nat_tests, bytes_differ ms, byte_among)
 
-bytes_valid : (ms : List ℕ) → valid_chain (map director_byte ms) ≡ valid_chain ms
-bytes_valid ms = rw (length-map ms director_byte, bytes_differ ms) refl
+bytes_valid : (ms : List ℕ) → valid_chain (map as_byte ms) ≡ valid_chain ms
+bytes_valid ms = grind (arith, bytes_differ, length-map)
 
 pub chain_told_is : (o : Option (List ℕ)) (bs : List ℕ) (r : Result Membership ℕ) → Ok bs ≡ members_told o →
     r ≡ founding bs → chain_told o ≡ from_number r
-chain_told_is None bs r p q = let z : ◌≡◌ {A = ℕ} 0 1 = cc in absurd (omega arith)
-chain_told_is (Some ms) bs r p q =
-    let b : bs ≡ map director_byte ms = cc in
-    let f : r ≡ founding (map director_byte ms) = q ∙ ap founding b in
-    ⊎_elim
-    (λ e. cond-true (valid_chain ms) (Ok (founded ms)) (Err InvalidChain) e ∙
-    sym (ap from_number (f ∙ ap founding (bytes_same ms (different ms e)) ∙
-    cond-true (valid_chain ms) (Ok (founded ms)) (Err 11) e)))
-    (λ e. cond-false (valid_chain ms) (Ok (founded ms)) (Err InvalidChain) e ∙
-    sym (ap from_number (f ∙ cond-false (valid_chain (map director_byte ms)) _ (Err 11) (bytes_valid ms ∙ e))))
-    (cases_Bool (valid_chain ms))
-  where
-    different : (ms : List ℕ) → valid_chain ms ≡ true → different_directors ms ≡ true
-    different ms h = third (leb 1 (length ms)) (leb (length ms) 7) (different_directors ms) h
-
--- the whole text: no line, a first line at fault, a later line at fault, and a list
-pub text_none : (text : List ℕ) (all : List (List ℕ)) → all ≡ lines text → all ≡ [] → read_text text ≡ Err (Unreadable 1)
-unfolding read_text
-text_none text all p q = ap read_lines (sym p ∙ q)
-
-pub text_from : (text l : List ℕ) (all ls : List (List ℕ)) → all ≡ lines text → all ≡ l ∷ ls →
-    read_text text ≡ chained (read_chain l) ls
-unfolding read_text
-text_from text l all ls p q = ap read_lines (sym p ∙ q)
+chain_told_is None bs r p q = cc
+chain_told_is (Some ms) bs r p q = grind (arith, nat_tests, bytes_valid, bytes_same)
 
 -- a fault is passed on, and want of memory excuses all
 pass : {A B : Type 0} (f : Fault) (p : Result A Fault) (q : Result B Fault) → ((f : Fault) → Err f ≡ p → Err f ≡ q) →
@@ -178,25 +121,33 @@ pass (IllFormed n) p q k e = k (IllFormed n) e
 pass (Unreadable n) p q k e = k (Unreadable n) e
 pass Memory p q k e = refl
 
+members_err : (o : Option (List ℕ)) (f : Fault) → Err f ≡ members_told o → Err f ≡ chain_told o
+members_err None f e = cc
+members_err (Some ms) f e = cc
+
+pub members_fault : (o : Option (List ℕ)) (f : Fault) → Err f ≡ cond (is_memory f) (Err Memory) (members_told o) →
+    Err f ≡ cond (is_memory f) (Err Memory) (chain_told o)
+members_fault o f e = pass f _ _ (members_err o) e
+
+-- the whole text: no line, a first line at fault, a later line at fault, and a list
+pub text_none : (text : List ℕ) (all : List (List ℕ)) → all ≡ lines text → all ≡ [] →
+    read_text text ≡ Err (Unreadable 1)
+unfolding read_text
+text_none text all p q = ap read_lines (sym p ∙ q)
+
+pub text_from : (text l : List ℕ) (all ls : List (List ℕ)) → all ≡ lines text → all ≡ l ∷ ls →
+    read_text text ≡ chained (read_chain l) ls
+unfolding read_text
+text_from text l all ls p q = ap read_lines (sym p ∙ q)
+
 chained_err : (o : Option (List ℕ)) (ls : List (List ℕ)) (f : Fault) → Err f ≡ chain_told o → Err f ≡ chained o ls
 chained_err None ls f e = cc
-chained_err (Some ms) ls f e =
-    ⊎_elim (λ v. let g : Err f ≡ Ok (founded ms) = rw v at e in let z : ◌≡◌ {A = ℕ} 0 1 = cc in absurd (omega arith))
-    (λ v. let g : ◌≡◌ {A = Result Membership Fault} (Err f) (Err InvalidChain) = rw v at e in
-    let h : f ≡ InvalidChain = cc in
-    ap Err h ∙ sym (cond-false (valid_chain ms) (listed (founded ms) (entries_from 2 ls)) (Err InvalidChain) v))
-    (cases_Bool (valid_chain ms))
+chained_err (Some ms) ls f e = grind (arith, nat_tests)
 
 chained_ok : (o : Option (List ℕ)) (ls : List (List ℕ)) (m : Membership) → Ok m ≡ chain_told o →
     chained o ls ≡ listed m (entries_from 2 ls)
-chained_ok None ls m e = let z : ◌≡◌ {A = ℕ} 0 1 = cc in absurd (omega arith)
-chained_ok (Some ms) ls m e =
-    ⊎_elim
-    (λ v. let g : ◌≡◌ {A = Result Membership Fault} (Ok m) (Ok (founded ms)) = rw v at e in
-    let h : founded ms ≡ m = cc in
-    cond-true (valid_chain ms) _ (Err InvalidChain) v ∙ ap (λ x. listed x (entries_from 2 ls)) h)
-    (λ v. let g : Ok m ≡ Err InvalidChain = rw v at e in let z : ◌≡◌ {A = ℕ} 0 1 = cc in absurd (omega arith))
-    (cases_Bool (valid_chain ms))
+chained_ok None ls m e = cc
+chained_ok (Some ms) ls m e = grind (arith, nat_tests)
 
 pub chain_fault : (text : List ℕ) (o : Option (List ℕ)) (ls : List (List ℕ)) (f : Fault) →
     read_text text ≡ chained o ls → Err f ≡ cond (is_memory f) (Err Memory) (chain_told o) →

@@ -1,16 +1,11 @@
 -- What the values of the code stand for.
-use Rattle.std.specs.Prelude.{◌≡◌, ℕ, ◌≤◌, Bool, true, false, cond, List, [], ◌∷◌, map, Some, None, Ok, Err, vec_items, Option, Result, nat_le}
-use Rattle.std.specs.Borrow.{Bor}
-use Rattle.command.specs.Chains.{membership}
+use Rattle.std.specs.Prelude.{◌≡◌, ℕ, min, Bool, true, false, cond, List, [], ◌∷◌, ◌++◌, map, codes, decimal, Some, None, Ok, Err, vec_items, Option, Result}
 use Rattle.command.specs.Members.{Membership, valid_chain, founded}
 use Rattle.listing.specs.declared.faults.Fault.{Fault}
 use Rattle.listing.specs.declared.faults.Fault.TheVariants.{InvalidChain, IllFormed, Unreadable, Memory}
-use Rattle.listing.specs.declared.cuts.Lines.{Lines}
 use Rattle.listing.specs.declared.lists.YearList.{YearList}
-use Rattle.listing.specs.declared.cuts.Words.{Words}
-use Rattle.command.specs.declared.Command.{Command}
-use Rattle.listing.specs.Pieces.{lines, words}
-use Rattle.listing.specs.Reading.{field, Listed}
+use Rattle.listing.specs.Numbers.{plain}
+use Rattle.listing.specs.Reading.{Listed}
 
 -- the number of the refusal; a line that cannot be read and want of memory have none
 abbrev pub fault_number : Fault → Option ℕ
@@ -19,22 +14,23 @@ fault_number (IllFormed line) = Some 5
 fault_number (Unreadable line) = None
 fault_number Memory = None
 
--- the lines and the words that are still to come
-abbrev pub lines_left : Lines → List (List ℕ)
-lines_left l = lines l.rest.now
+-- the words for a fault
+abbrev pub fault_text : Fault → List ℕ
+fault_text InvalidChain = codes "refused 11 at line 1: a chain is 1 to 7 different directors from 0 to 31"
+fault_text (IllFormed line) = codes "refused 5 at line " ++ decimal line ++ codes ": the command is not well formed"
+fault_text (Unreadable line) =
+    codes "line " ++ decimal line ++ codes " cannot be read: see docs/list-format.md for the form of a list"
+fault_text Memory = codes "no memory is left"
 
-abbrev pub words_left : Words → List (List ℕ)
-words_left w = cond w.more (words w.rest.now) []
+-- a word as a number, where `gives` tells what the number's type reads a text as: it is written plainly, and read so
+abbrev pub Reads : {A E : Type 0} → (List ℕ → Result A E → Type 0) → List ℕ → Option A → Type 0
+Reads {E = E} gives w None = plain w ≡ true → (e : E) × gives w (Err e)
+Reads gives w (Some n) = (plain w ≡ true) × gives w (Ok n)
 
--- the first of the pieces is given, and the others are left
-abbrev pub Next : List (List ℕ) → Option (Bor (List ℕ)) → List (List ℕ) → Type 0
-Next ps None qs = (ps ≡ []) × (qs ≡ [])
-Next ps (Some p) qs = ps ≡ p.now ∷ qs
-
--- the next word is read as a number: what a reading makes of the words, it makes of that number and the words left
-abbrev pub Field : ℕ → List (List ℕ) → Option ℕ → List (List ℕ) → Type 0
-Field max ws None ws' = (f : ℕ → List (List ℕ) → Option Command) → field max ws f ≡ None
-Field max ws (Some n) ws' = (n ≤ max) × ((f : ℕ → List (List ℕ) → Option Command) → field max ws f ≡ f n ws')
+-- the next word is read as a number, and the words after it are left
+abbrev pub Field : {A E : Type 0} → (List ℕ → Result A E → Type 0) → List (List ℕ) → Option A → List (List ℕ) → Type 0
+Field gives [] r ws' = (r ≡ None)
+Field gives (w ∷ ws) r ws' = (ws' ≡ ws) × Reads gives w r
 
 -- whether a fault is want of memory
 abbrev pub is_memory : Fault → Bool
@@ -59,16 +55,16 @@ Tells view r o = seen view r ≡ cond (spent r) (Err Memory) o
 
 -- what a list of the code stands for
 abbrev pub list_of : YearList → Listed
-list_of l = record { chain = membership l.chain; commands = vec_items l.commands }
+list_of l = record { chain = l.chain; commands = vec_items l.commands }
 
--- a director's number, and one byte for all larger numbers: none of those is a director's
-abbrev pub director_byte : ℕ → ℕ
-director_byte n = cond (nat_le n 31) n 255
+-- a number as a byte, and the largest byte for all larger numbers: none of those is a director's
+abbrev pub as_byte : ℕ → ℕ
+as_byte n = min n 255
 
 -- the directors that the first line names, as bytes
 abbrev pub members_told : Option (List ℕ) → Result (List ℕ) Fault
 members_told None = Err (Unreadable 1)
-members_told (Some ms) = Ok (map director_byte ms)
+members_told (Some ms) = Ok (map as_byte ms)
 
 -- the chain that the first line names
 abbrev pub chain_told : Option (List ℕ) → Result Membership Fault

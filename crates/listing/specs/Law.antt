@@ -1,6 +1,6 @@
 -- What is written is read back.
 use Rattle.std.specs.Prelude.{◌≡◌, ℕ, true, List, Ok, Result}
-use Rattle.std.specs.List.{AllByRecursion}
+use Rattle.std.specs.List.{All}
 use Rattle.command.specs.declared.Command.{Command}
 use Rattle.command.specs.Commands.{well_formed, Sized}
 use Rattle.command.specs.Members.{valid_chain, founded}
@@ -17,5 +17,5 @@ pub record Listable (c : Command) : Type 0 where
 -- where the text is the written form of a valid chain and of commands that may stand in a list, just these are read
 abbrev pub ReadsBack : List ℕ → Result YearList Fault → Type 0
 ReadsBack text r =
-    (ms : List ℕ) (cs : List Command) → valid_chain ms ≡ true → AllByRecursion Listable cs → text ≡ text_of ms cs →
+    (ms : List ℕ) (cs : List Command) → valid_chain ms ≡ true → All Listable cs → text ≡ text_of ms cs →
     Tells list_of r (Ok (record { chain = founded ms; commands = cs }))

@@ -1,6 +1,9 @@
 -- How a list is written.
-use Rattle.std.specs.Prelude.{ℕ, cond, List, [], ◌∷◌, ◌++◌, codes, ◌==◌}
+use Rattle.std.specs.Prelude.{ℕ, List, [], ◌∷◌, ◌++◌, Some, None, Option, codes}
 use Rattle.command.specs.declared.Command.{Command}
+use Rattle.command.specs.declared.verbs.Verb.{Verb}
+use Rattle.command.specs.declared.verbs.Verb.TheVariants.{Noop, Add, Remove, Change}
+use Rattle.command.specs.Commands.{verb_of}
 use Rattle.listing.specs.Numbers.{decimal_of}
 
 -- each number after a space
@@ -12,13 +15,17 @@ spaced (n ∷ ns) = 32 ∷ decimal_of n ++ spaced ns
 abbrev pub chain_line : List ℕ → List ℕ
 chain_line ms = codes "chain" ++ spaced ms
 
--- the line of a command, without its end; where the verb uses no other field, none is written
+-- the line of a command of this kind, without its end; where the kind uses no other field, none is written
+abbrev pub line_for : Option Verb → Command → List ℕ
+line_for (Some Noop) c = codes "noop"
+line_for (Some Add) c = codes "add" ++ spaced (c.a ∷ [])
+line_for (Some Remove) c = codes "remove" ++ spaced (c.a ∷ [])
+line_for (Some Change) c = codes "change" ++ spaced (c.verb ∷ c.origin ∷ c.serial ∷ c.a ∷ c.b ∷ [])
+line_for None c = codes "change" ++ spaced (c.verb ∷ c.origin ∷ c.serial ∷ c.a ∷ c.b ∷ [])
+
+-- the line of a command, by the kind that its verb stands for; one that stands for none is written as a change is
 abbrev pub line_of : Command → List ℕ
-line_of c =
-    cond (c.verb == 0) (codes "noop")
-    (cond (c.verb == 1) (codes "add" ++ spaced (c.a ∷ []))
-    (cond (c.verb == 2) (codes "remove" ++ spaced (c.a ∷ []))
-    (codes "change" ++ spaced (c.verb ∷ c.origin ∷ c.serial ∷ c.a ∷ c.b ∷ []))))
+line_of c = line_for (verb_of c.verb) c
 
 -- a line with its end
 abbrev pub ending : List ℕ → List ℕ

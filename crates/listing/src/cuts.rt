@@ -1,83 +1,65 @@
 //! Cutting a text into lines and a line into words, one after another.
 
-ghost use Rattle.listing.specs.Pieces.{place_of, words};
-ghost use Rattle.listing.specs.Answers.{Next, lines_left, words_left};
-ghost use Rattle.std.specs.Prelude.{◌≡◌, ◌≤◌, length};
+ghost use Rattle.std.specs.Prelude.{◌≡◌};
+ghost use Rattle.std.specs.Iterator.{YieldsFirstRef, item_count};
+ghost use Rattle.listing.specs.Pieces.{lines, words};
 
-const NEWLINE: u8 = 10;
+use std::marker::Model;
 
-const SPACE: u8 = 32;
-
-/// The lines of a text that are still to come.
+/// The pieces that are still to come: the lines of a text, or the words of a line.
+// A type of its own and not what the slice's `split` gives: that type has a closure's in it, so each function that goes
+// on with the words would have to be generic, and its clauses could not name the words that are left as they do here.
 #[derive(Drop)]
-pub struct Lines<'a> {
-    pub rest: &'a [u8],
+pub(crate) struct Pieces<'a> {
+    rest: Option<&'a [u8]>,
+    mark: u8,
 }
 
-impl<'a> Lines<'a> {
-    /// The next line, without its end.
-    pub(crate) fn next(&mut self) -> Option<&'a [u8]>
-        ensures { Next (lines_left self.old) result (lines_left self.new) }
+impl<'a> Model for Pieces<'a> {
+    ghost use Rattle.std.specs.Prelude.{ℕ, List};
+    ghost use Rattle.listing.specs.Pieces.{pieces_left};
+
+    ghost Value = { List (List ℕ) };
+
+    ghost view = { λ p. pieces_left p.mark p.rest };
+}
+
+impl<'a> Pieces<'a> {
+    /// The lines of a text, each without its end; the last line may lack it.
+    pub(crate) fn lines(text: &'a [u8]) -> Pieces<'a>
+        ensures { result ≡ lines text.now }
     {
-        let rest = self.rest;
-        if rest.is_empty() {
-            return None;
+        let rest = match text {
+            [] => None,
+            _ => Some(text.strip_suffix(b"\n").unwrap_or(text)),
+        };
+        Pieces { rest, mark: b'\n' }
+    }
+
+    /// The words of a line.
+    pub(crate) fn words(line: &'a [u8]) -> Pieces<'a>
+        ensures { result ≡ words line.now }
+    {
+        Pieces {
+            rest: Some(line),
+            mark: b' ',
         }
-        let end = place_of(NEWLINE, rest);
-        if end == rest.len() {
-            self.rest = &rest[end..];
+    }
+}
+
+impl<'a> Iterator for Pieces<'a> {
+    type Item = &'a [u8];
+
+    ghost next_gives = { YieldsFirstRef (λ ps. ps) };
+
+    ghost remaining = { item_count (λ ps. ps) };
+
+    fn next(&mut self) -> Option<&'a [u8]> {
+        let rest = self.rest.take()?;
+        let Some(end) = rest.iter().position(|b| *b == self.mark) else {
             return Some(rest);
-        }
-        self.rest = &rest[end + 1..];
-        Some(&rest[0..end])
+        };
+        self.rest = Some(&rest[end + 1..]);
+        Some(&rest[..end])
     }
-}
-
-/// The words of a line that are still to come.
-#[derive(Drop)]
-pub struct Words<'a> {
-    pub rest: &'a [u8],
-    pub more: bool,
-}
-
-impl<'a> Words<'a> {
-    /// All words of a line.
-    pub(crate) fn of(line: &'a [u8]) -> Words<'a>
-        ensures { words_left result ≡ words line.now }
-    {
-        Words {
-            rest: line,
-            more: true,
-        }
-    }
-
-    /// The next word.
-    pub(crate) fn next(&mut self) -> Option<&'a [u8]>
-        ensures { Next (words_left self.old) result (words_left self.new) }
-    {
-        if !self.more {
-            return None;
-        }
-        let rest = self.rest;
-        let end = place_of(SPACE, rest);
-        if end == rest.len() {
-            self.more = false;
-            return Some(rest);
-        }
-        self.rest = &rest[end + 1..];
-        Some(&rest[0..end])
-    }
-}
-
-// Where the first such byte stands, or the length where there is none.
-fn place_of(mark: u8, bytes: &[u8]) -> usize
-    ensures place { result ≡ place_of mark bytes.now }
-    ensures within { result ≤ length bytes.now }
-{
-    for (i, b) in bytes.iter().enumerate() {
-        if *b == mark {
-            return i;
-        }
-    }
-    bytes.len()
 }

@@ -1,94 +1,69 @@
 //! A line of the list as a command.
 
-ghost use Rattle.listing.specs.Answers.{words_left, Field};
+ghost use Rattle.listing.specs.Answers.{Field};
 ghost use Rattle.listing.specs.Reading.{read_entry, member_of, change_of, ended};
 ghost use Rattle.std.specs.Prelude.{◌≡◌};
 
-use crate::cuts::Words;
+use crate::cuts::Pieces;
 use crate::numerals::read_number;
-use command::{Command, Serial};
+use command::Command;
+use std::num::ParseIntError;
+use std::str;
+use std::str::FromStr;
 
 /// A line, without its end, as the command that it tells; well formed or not.
 pub fn read_entry(line: &[u8]) -> Option<Command>
     ensures { result ≡ read_entry line.now }
 {
-    let mut words = Words::of(line);
-    let first = words.next()?;
-    if first == b"noop".as_slice() {
-        return end(
-            words,
-            Command {
-                verb: 0,
-                origin: 0,
-                serial: 0,
-                a: 0,
-                b: 0,
-            },
-        );
+    let mut words = Pieces::words(line);
+    match str::from_utf8(words.next()?).ok()? {
+        "noop" => end(words, Command::NOOP),
+        "add" => read_member(words, 1),
+        "remove" => read_member(words, 2),
+        "change" => read_change(words),
+        _ => None,
     }
-    if first == b"add".as_slice() {
-        return read_member(words, 1);
-    }
-    if first == b"remove".as_slice() {
-        return read_member(words, 2);
-    }
-    if first == b"change".as_slice() {
-        return read_change(words);
-    }
-    None
 }
 
-// The director that follows an add or a remove.
-fn read_member(mut words: Words, verb: u8) -> Option<Command>
-    ensures { result ≡ member_of verb (words_left words.entry) }
+// The director that follows an add or a remove. Its verb is a number, as in a command, which may have any content.
+fn read_member(mut words: Pieces, verb: u8) -> Option<Command>
+    ensures { result ≡ member_of verb words.entry }
 {
-    let a = read_field(&mut words, u16::MAX as u64)? as u16;
+    let a = read_field(&mut words)?;
     end(
         words,
         Command {
             verb,
-            origin: 0,
-            serial: 0,
             a,
-            b: 0,
+            ..Command::NOOP
         },
     )
 }
 
 // The five fields of a change.
-fn read_change(mut words: Words) -> Option<Command>
-    ensures { result ≡ change_of (words_left words.entry) }
+fn read_change(mut words: Pieces) -> Option<Command>
+    ensures { result ≡ change_of words.entry }
 {
-    let verb = read_field(&mut words, u8::MAX as u64)? as u8;
-    let origin = read_field(&mut words, u16::MAX as u64)? as u16;
-    let serial = read_field(&mut words, Serial::MAX as u64)? as Serial;
-    let a = read_field(&mut words, u16::MAX as u64)? as u16;
-    let b = read_field(&mut words, u16::MAX as u64)? as u16;
-    end(
-        words,
-        Command {
-            verb,
-            origin,
-            serial,
-            a,
-            b,
-        },
-    )
+    let command = Command {
+        verb: read_field(&mut words)?,
+        origin: read_field(&mut words)?,
+        serial: read_field(&mut words)?,
+        a: read_field(&mut words)?,
+        b: read_field(&mut words)?,
+    };
+    end(words, command)
 }
 
-// The next word as a number of at most `max`.
-fn read_field(words: &mut Words, max: u64) -> Option<u64>
-    ensures { Field max (words_left words.old) result (words_left words.new) }
+// The next word as a number of the field's type.
+fn read_field<T: FromStr<Err = ParseIntError>>(words: &mut Pieces) -> Option<T>
+    ensures { Field T.from_str_gives words.old result words.new }
 {
-    read_number(words.next()?, max)
+    read_number(words.next()?)
 }
 
 // The command, if no word is left.
-fn end(mut words: Words, command: Command) -> Option<Command>
-    ensures { result ≡ ended (words_left words.entry) command }
+fn end(mut words: Pieces, command: Command) -> Option<Command>
+    ensures { result ≡ ended words.entry command }
 {
-    match words.next() {
-        None => Some(command),
-        Some(_) => None,
-    }
+    words.next().is_none().then_some(command)
 }

@@ -22,10 +22,7 @@ mod tests {
     use std::test::Fail;
 
     fn fault_of(heap: Global, text: &[u8]) -> Option<Fault> {
-        match read_list(heap, text) {
-            Ok(_) => None,
-            Err(fault) => Some(fault),
-        }
+        read_list(heap, text).err()
     }
 
     #[test]
@@ -98,36 +95,44 @@ mod tests {
             read_entry(b"add 0"),
             Some(Command {
                 verb: 1,
-                origin: 0,
-                serial: 0,
-                a: 0,
-                b: 0,
+                ..Command::NOOP
             })
         );
+    }
+
+    #[test]
+    fn faults_are_told(rt: HostRuntime) -> Result<(), Fail> {
+        let heap = rt.alloc();
+        assert_eq!(rt;
+            format!(in heap; "{}", Fault::InvalidChain)?.as_str(),
+            "refused 11 at line 1: a chain is 1 to 7 different directors from 0 to 31"
+        );
+        assert_eq!(rt;
+            format!(in heap; "{}", Fault::IllFormed { line: 7 })?.as_str(),
+            "refused 5 at line 7: the command is not well formed"
+        );
+        assert_eq!(rt;
+            format!(in heap; "{}", Fault::Unreadable { line: 3 })?.as_str(),
+            "line 3 cannot be read: see docs/list-format.md for the form of a list"
+        );
+        assert_eq!(rt;
+            format!(in heap; "{}", Fault::Memory)?.as_str(),
+            "no memory is left"
+        );
+        Ok(())
     }
 
     #[test]
     fn lists_are_written(rt: HostRuntime) -> Result<(), Fail> {
         let mut out = String::new(rt.alloc());
         write_chain(&mut out, &[3, 31, 0])?;
-        write_entry(
-            &mut out,
-            &Command {
-                verb: 0,
-                origin: 0,
-                serial: 0,
-                a: 0,
-                b: 0,
-            },
-        )?;
+        write_entry(&mut out, &Command::NOOP)?;
         write_entry(
             &mut out,
             &Command {
                 verb: 2,
-                origin: 0,
-                serial: 0,
                 a: 31,
-                b: 0,
+                ..Command::NOOP
             },
         )?;
         write_entry(
@@ -137,7 +142,7 @@ mod tests {
                 origin: 1,
                 serial: 20,
                 a: 300,
-                b: 0,
+                ..Command::NOOP
             },
         )?;
         assert!(rt; out.as_str() == "chain 3 31 0\nnoop\nremove 31\nchange 16 1 20 300 0\n");

@@ -1,28 +1,29 @@
 //! Decimal numbers in a line.
 
-ghost use Rattle.listing.specs.Numbers.{numeral};
+ghost use Rattle.listing.specs.Answers.{Reads};
+ghost use Rattle.listing.specs.Numbers.{plain};
 ghost use Rattle.std.specs.Prelude.{◌≡◌};
 
-/// The number that a word writes, where it is at most `max`: digits with no needless zero before them.
-pub(crate) fn read_number(word: &[u8], max: u64) -> Option<u64>
-    ensures { result ≡ numeral max word.now }
+use std::num::ParseIntError;
+use std::str;
+use std::str::FromStr;
+
+/// The number that a word writes plainly, where its type can hold it.
+pub(crate) fn read_number<T: FromStr<Err = ParseIntError>>(word: &[u8]) -> Option<T>
+    ensures { Reads T.from_str_gives word.now result }
 {
-    if word.is_empty() {
+    if !is_plain(word) {
         return None;
     }
-    if word[0] == b'0' && word.len() > 1 {
-        return None;
+    str::from_utf8(word).ok()?.parse().ok()
+}
+
+// Whether a word is some digits, with no needless zero before them: a first zero stands alone.
+fn is_plain(word: &[u8]) -> bool
+    ensures { result ≡ plain word.now }
+{
+    match word {
+        [] | [b'0', _, ..] => false,
+        digits => digits.iter().all(u8::is_ascii_digit),
     }
-    let mut number: u64 = 0;
-    for b in word {
-        if !b.is_ascii_digit() {
-            return None;
-        }
-        let next = number as u128 * 10 + (*b - b'0') as u128;
-        if next > max as u128 {
-            return None;
-        }
-        number = next as u64;
-    }
-    Some(number)
 }

@@ -1,66 +1,47 @@
 //! A list as text.
 
-ghost use Rattle.listing.specs.Numbers.{decimal_of};
-ghost use Rattle.listing.specs.Writing.{spaced, chain_line, line_of, ending};
-ghost use Rattle.std.specs.Prelude.{◌≡◌, ◌∷◌, ◌++◌, string_bytes, OnOk};
+ghost use Rattle.listing.specs.declared.faults.Fault.TheVariants.{Memory};
+ghost use Rattle.listing.specs.Writing.{chain_line, line_of, ending};
+ghost use Rattle.std.specs.Prelude.{◌≡◌, ◌++◌, string_bytes, OnOk, IsOkUnless};
 
 use crate::Fault;
-use command::Command;
+use command::{Command, UnknownVerb, Verb};
 
-/// Appends the first line: the chain of these members.
+/// Appends the first line: the chain of these members. Where memory runs out, a part of the line may stand there.
 pub fn write_chain(out: &mut String, members: &[u8]) -> Result<(), Fault>
-    ensures { OnOk result (string_bytes out.new ≡
+    ensures written { OnOk result (string_bytes out.new ≡
         string_bytes out.old ++ ending (chain_line members.now)) }
+    ensures fails_by_memory { IsOkUnless result Memory }
 {
     out.push_str("chain")?;
     for member in members {
-        write_number(out, *member as u64)?;
+        write!(out, " {member}")?;
     }
     out.push('\n')?;
     Ok(())
 }
 
-/// Appends the line of a command.
+/// Appends the line of a command. Where memory runs out, a part of the line may stand there.
 pub fn write_entry(out: &mut String, command: &Command) -> Result<(), Fault>
-    ensures { OnOk result (string_bytes out.new ≡
+    ensures written { OnOk result (string_bytes out.new ≡
         string_bytes out.old ++ ending (line_of command.now)) }
+    ensures fails_by_memory { IsOkUnless result Memory }
 {
-    let a = command.a as u64;
-    match command.verb {
-        0 => write_line(out, "noop", &[]),
-        1 => write_line(out, "add", &[a]),
-        2 => write_line(out, "remove", &[a]),
-        verb => {
-            let fields = [
-                verb as u64,
-                command.origin as u64,
-                command.serial as u64,
-                a,
-                command.b as u64,
-            ];
-            write_line(out, "change", &fields)
-        }
+    let Command {
+        verb,
+        origin,
+        serial,
+        a,
+        b,
+    } = *command;
+    match Verb::try_from(verb) {
+        Ok(Verb::Noop) => writeln!(out, "noop")?,
+        Ok(Verb::Add) => writeln!(out, "add {a}")?,
+        Ok(Verb::Remove) => writeln!(out, "remove {a}")?,
+        Ok(Verb::Change) | Err(UnknownVerb(_)) => writeln!(
+            out,
+            "change {verb} {origin} {serial} {a} {b}"
+        )?,
     }
-}
-
-// Appends a line: its first word, and the numbers after it.
-fn write_line(out: &mut String, word: &str, numbers: &[u64]) -> Result<(), Fault>
-    ensures { OnOk result (string_bytes out.new ≡
-        string_bytes out.old ++ ending (word.now ++ spaced numbers.now)) }
-{
-    out.push_str(word)?;
-    for number in numbers {
-        write_number(out, *number)?;
-    }
-    out.push('\n')?;
-    Ok(())
-}
-
-// Appends a space and a number.
-fn write_number(out: &mut String, number: u64) -> Result<(), Fault>
-    ensures { OnOk result (string_bytes out.new ≡
-        string_bytes out.old ++ (32 ∷ decimal_of number)) }
-{
-    write!(out, " {number}")?;
     Ok(())
 }

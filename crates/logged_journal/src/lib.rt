@@ -2,7 +2,6 @@
 
 #![tactic(auto)]
 
-mod keeping;
 mod logged;
 mod logs;
 
@@ -23,15 +22,7 @@ mod tests {
         log.keep(Write::Promise { ballot: 3 });
         assert!(rt; !log.complete);
         assert!(rt; log.writes.len() == 2);
-        match log.writes[1] {
-            Write::Promise { ballot } => {
-                assert_eq!(rt; ballot, 2);
-                Ok(())
-            },
-            _ => {
-                assert!(rt; false);
-                Ok(())
-            },
-        }
+        assert_eq!(rt; log.writes[1], Write::Promise { ballot: 2 });
+        Ok(())
     }
 }

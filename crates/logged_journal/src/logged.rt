@@ -25,6 +25,7 @@ impl<J: Journal> LoggedJournal<J> {
     pub fn over(heap: Global, lower: J, room: usize) -> Result<LoggedJournal<J>, AllocFailed<J>>
         ensures { MatchResult result (λ j. Over lower room j) (λ e. e.value ≡ lower) }
     {
+        // Both outcomes take the journal, so they are the arms of a match.
         match Log::new(heap, room) {
             Ok(log) => Ok(LoggedJournal { lower, log }),
             Err(_) => Err(AllocFailed { value: lower }),
@@ -89,31 +90,12 @@ impl<J: Journal> Journal for LoggedJournal<J> {
         self.lower.open(slot)
     }
 
-    fn promise(&mut self, ballot: u32) -> bool {
-        if !self.lower.promise(ballot) {
-            return false;
+    // Makes a write below, and keeps it if it was taken there.
+    fn take(&mut self, write: Write) -> bool {
+        let taken = self.lower.take(write);
+        if taken {
+            self.log.keep(write);
         }
-        self.log.keep(Write::Promise { ballot });
-        true
-    }
-
-    fn put(&mut self, slot: u32, ballot: u32, command: &Command) -> bool {
-        if !self.lower.put(slot, ballot, command) {
-            return false;
-        }
-        self.log.keep(Write::Put {
-            slot,
-            ballot,
-            command: *command,
-        });
-        true
-    }
-
-    fn settle(&mut self, command: &Command) -> bool {
-        if !self.lower.settle(command) {
-            return false;
-        }
-        self.log.keep(Write::Settle { command: *command });
-        true
+        taken
     }
 }

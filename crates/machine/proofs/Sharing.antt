@@ -1,7 +1,7 @@
 -- The ledger's 512 addresses: what one host gets or gives back leaves the sum as it is.
 use Rattle.std.proofs.Common.{◌≡◌, ℕ, ◌+◌, ◌-◌, ◌<◌, ◌≤◌, Bool, true, false, cond, ◌&&◌, eqb, List, [], ◌∷◌, length, get_or, set, replicate, sum, refl, ⊎_elim, arith}
 use Rattle.std.proofs.lemmas.List.{length-set, length-replicate, get_or_past, get_or-replicate}
-use Rattle.std.proofs.lemmas.List.Sums.{sum_by-set, get_or-le-sum_by}
+use Rattle.std.proofs.lemmas.List.Sums.{sum_by-set}
 use Rattle.std.proofs.lemmas.Bool.{cond_both, cases_lt}
 use Rattle.std.proofs.lemmas.Bool.Decides.{nat_tests}
 use Rattle.command.specs.declared.Command.{Command}
@@ -11,10 +11,7 @@ use Rattle.machine.specs.Ledgers.{given, returned, AddressesShared, HoldingsBala
 use Rattle.machine.proofs.Places.{get_d_set}
 use Rattle.machine.proofs.Runs.{lasts}
 
--- a host holds no more than all hosts together
-pub held_below : (xs : List ℕ) (i : ℕ) → i < length xs → get_or xs i 0 ≤ sum xs
-held_below xs i l = get_or-le-sum_by (λ x. x) xs i 0 l
-
+-- what the hosts hold in all, once one of them holds more or less
 pub sum_more : (xs : List ℕ) (i n : ℕ) → i < length xs → sum (set xs i (get_or xs i 0 + n)) ≡ sum xs + n
 sum_more xs i n l = omega (arith, sum_by-set (λ x. x) xs i (get_or xs i 0 + n) 0 l)
 

@@ -54,10 +54,9 @@ mod tests {
     fn change(verb: u8, a: u16, b: u16) -> Command {
         Command {
             verb,
-            origin: 0,
-            serial: 0,
             a,
             b,
+            ..Command::NOOP
         }
     }
 

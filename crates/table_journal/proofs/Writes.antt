@@ -1,13 +1,12 @@
 -- What a table owes of a write.
-use Rattle.std.proofs.Common.{◌≡◌, ℕ, ◌+◌, ◌<◌, Bool, true, false, List, [], ◌∷◌, ◌++◌, slice_set, sym, refl, ap, ◌∙◌, subst, arith}
+use Rattle.std.proofs.Common.{◌≡◌, ◌<◌, Bool, true, false, ◌++◌, sym, refl, ap, ◌∙◌, subst, arith}
 use Rattle.std.proofs.lemmas.Bool.Decides.{nat_tests}
 use Rattle.command.specs.declared.Command.{Command}
 use Rattle.journal.proofs.Histories.{step_taken, step_untaken, leads_more}
 use Rattle.journal.specs.Laws.{Leads}
-use Rattle.journal.specs.Meaning.{Meaning, fresh, blank, settled_count, taken, after, step, wrote, Writes}
+use Rattle.journal.specs.Meaning.{Meaning, fresh, settled_count, taken, after, step, wrote, Writes}
 use Rattle.journal.specs.declared.writes.Write.{Write}
 use Rattle.journal.specs.declared.writes.Write.TheVariants.{Settle}
-use Rattle.journal.specs.Windows.{place_of}
 use Rattle.table_journal.specs.Tables.{table_meaning, table_behind}
 use Rattle.table_journal.specs.declared.tables.TableJournal.{TableJournal}
 
@@ -19,24 +18,6 @@ slot_left c m t = grind (arith, nat_tests)
 pub settle_fits : (c : Command) (m : Meaning) (w : Write) (r : Bool) → r ≡ taken w m → r ≡ true → w ≡ Settle c
     → settled_count m < m.capacity
 settle_fits c m w r t y e = slot_left c m (ap (λ x. taken x m) (sym e) ∙ sym t ∙ y)
-
--- what a settle leaves, by its settled list and the place that it empties
-pub settle_after : (c : Command) (m : Meaning) (list : List Command) (p : ℕ)
-    → list ≡ m.settled ++ (c ∷ []) → p ≡ place_of (settled_count m + 1)
-    → record {
-      capacity = m.capacity;
-      promised = m.promised;
-      settled = list;
-      places = slice_set m.places p blank;
-    } ≡ after (Settle c) m
-unfolding after
-settle_after c m list p e k = λ i.
-    record {
-      capacity = m.capacity;
-      promised = m.promised;
-      settled = e i;
-      places = slice_set m.places (k i) blank;
-    }
 
 -- a write owes its answer and what a step leaves; then the lists that lead to the one lead to the other
 stepped : (old new : TableJournal) (w : Write) (r : Bool) → r ≡ taken w (table_meaning old)

@@ -27,9 +27,9 @@ pub struct TableJournal {
 }
 
 impl TableJournal {
-    ghost use Rattle.journal.specs.Meaning.{settled_count, taken, Writes};
+    ghost use Rattle.journal.specs.Meaning.{settled_count, taken};
     ghost use Rattle.journal.specs.Windows.{in_window};
-    ghost use Rattle.table_journal.specs.Tables.{Made, refusal_for, table_meaning, table_behind};
+    ghost use Rattle.table_journal.specs.Tables.{Made, refusal_for, table_meaning};
 
     /// A new journal with a slot for each record, of more than 60,000 records with 60,000 slots. With 0 records it is
     /// refusal 12.
@@ -58,47 +58,25 @@ impl TableJournal {
 
     // Whether a write is taken.
     #[tactic(auto, unfolding(journal::specs::Meaning::taken))]
-    fn takes(&self, write: &Write) -> bool
-        ensures { result ≡ taken write.now (table_meaning self.now) }
+    fn takes(&self, write: Write) -> bool
+        ensures { result ≡ taken write (table_meaning self.now) }
     {
         match write {
-            Write::Promise { ballot } => self.promised <= *ballot,
+            Write::Promise { ballot } => self.promised <= ballot,
             Write::Put {
                 slot,
                 ballot,
                 command,
             } => {
-                *ballot == self.promised
-                    && *ballot != 0
-                    && self.is_open(*slot)
-                    && *slot <= self.capacity
+                ballot == self.promised
+                    && ballot != 0
+                    && self.is_open(slot)
+                    && slot <= self.capacity
                     && command.is_well_formed()
             },
             Write::Settle { command } => (self.settled.len() as u32) < self.capacity
                 && command.is_well_formed(),
         }
-    }
-
-    // Makes a write if it is taken, and tells whether it was.
-    fn write(&mut self, write: &Write) -> bool
-        ensures { Writes table_meaning table_behind write.now self.old self.new result }
-    {
-        let taken = self.takes(write);
-        if taken {
-            match *write {
-                Write::Promise { ballot } => self.promised = ballot,
-                Write::Put {
-                    slot,
-                    ballot,
-                    command,
-                } => self.places[slot as usize % SPAN] = Entry { ballot, command },
-                Write::Settle { command } => {
-                    self.settled.push_reserved(command);
-                    self.places[self.settled.len() % SPAN] = Entry::BLANK;
-                },
-            }
-        }
-        taken
     }
 }
 
@@ -138,19 +116,22 @@ impl Journal for TableJournal {
         }
     }
 
-    fn promise(&mut self, ballot: u32) -> bool {
-        self.write(&Write::Promise { ballot })
-    }
-
-    fn put(&mut self, slot: u32, ballot: u32, command: &Command) -> bool {
-        self.write(&Write::Put {
-            slot,
-            ballot,
-            command: *command,
-        })
-    }
-
-    fn settle(&mut self, command: &Command) -> bool {
-        self.write(&Write::Settle { command: *command })
+    fn take(&mut self, write: Write) -> bool {
+        let taken = self.takes(write);
+        if taken {
+            match write {
+                Write::Promise { ballot } => self.promised = ballot,
+                Write::Put {
+                    slot,
+                    ballot,
+                    command,
+                } => self.places[slot as usize % SPAN] = Entry { ballot, command },
+                Write::Settle { command } => {
+                    self.settled.push_reserved(command);
+                    self.places[self.settled.len() % SPAN] = Entry::BLANK;
+                },
+            }
+        }
+        taken
     }
 }

@@ -1,8 +1,11 @@
 //! A small year, sealed into a file, read back and compared.
 
-use crate::show::Table;
-use crate::{jobs, words};
+use crate::jobs;
+use crate::jobs::PROGRAM;
 use archive::Reader;
+use console::fail;
+use layers::Stack;
+use machine::Ledger;
 use std::fs;
 use yearbook::{seal_text, text_of};
 
@@ -25,20 +28,20 @@ pub(crate) fn run(rt: &HostRuntime) -> anyhow::Result<()> {
     println!(rt; "a small year, as text:")?;
     rt.print(LIST)?;
     let Ok(year) = seal_text(heap, LIST.as_bytes()) else {
-        return jobs::fail(rt, "year: the small year was not sealed");
+        return fail(rt, PROGRAM, &"the small year was not sealed");
     };
     jobs::print_sealed(rt, &year)?;
     fs::write(rt, FILE, year.file.as_slice())?;
     let mut file = fs::read(rt, FILE)?;
-    if file.as_slice() != year.file.as_slice() {
-        return jobs::fail(rt, "year: the file is not what was written");
+    if file != year.file {
+        return fail(rt, PROGRAM, &"the file is not what was written");
     }
     println!(rt; "wrote {FILE} and read the same bytes back")?;
     let Ok(text) = text_of(heap, file.as_slice()) else {
-        return jobs::fail(rt, "year: the file was refused");
+        return fail(rt, PROGRAM, &"the file was refused");
     };
     if text.as_str() != LIST {
-        return jobs::fail(rt, "year: the text is not what was sealed");
+        return fail(rt, PROGRAM, &"the text is not what was sealed");
     }
     println!(rt; "its text is the text that was sealed")?;
     show_and_break(rt, &mut file)
@@ -46,19 +49,17 @@ pub(crate) fn run(rt: &HostRuntime) -> anyhow::Result<()> {
 
 // Prints the file for people, then breaks the verb of its third entry and prints the refusal that opening then gives.
 fn show_and_break(rt: &HostRuntime, file: &mut Vec<u8>) -> anyhow::Result<()> {
-    let length = file.len();
     if let Ok(reader) = Reader::open(file.as_slice()) {
-        jobs::print_shown(rt, &reader, length, Table::Weights)?;
-        jobs::print_shown(rt, &reader, length, Table::Holdings)?;
+        jobs::print_shown(rt, &reader, Stack::new())?;
+        jobs::print_shown(rt, &reader, Ledger::new())?;
     }
     if let Some(byte) = file.get_mut(30) {
         *byte = 3;
     }
     match Reader::open(file.as_slice()) {
-        Ok(_) => jobs::fail(rt, "year: the broken file was read"),
+        Ok(_) => fail(rt, PROGRAM, &"the broken file was read"),
         Err(broken) => {
-            let said = words::of_broken(rt.alloc(), broken, length)?;
-            println!(rt; "with one byte changed: {said}")?;
+            println!(rt; "with one byte changed: {PROGRAM}: {broken}")?;
             Ok(())
         }
     }

@@ -1,92 +1,68 @@
 //! What the program does, word by word of its command line.
 
+use crate::show;
 use crate::show::Table;
-use crate::{show, words};
-use anyhow::anyhow;
-use archive::{Broken, Reader};
+use archive::Reader;
+use console::{or_fail, or_fail_at};
+use listing::{Fault, write_chain};
+use std::alloc::Global;
 use std::fs;
-use yearbook::{ReadFault, SealFault, SealedYear, seal_text, text_of};
+use yearbook::{SealedYear, seal_text, text_of};
+
+/// The name that the program's refusals begin with.
+pub(crate) const PROGRAM: &str = "year";
 
 /// Seals the list in one file into another, and says what was sealed.
 pub(crate) fn seal(rt: &HostRuntime, list: &str, file: &str) -> anyhow::Result<()> {
     let text = load(rt, list)?;
-    match seal_text(rt.alloc(), text.as_slice()) {
-        Ok(year) => {
-            fs::write(rt, file, year.file.as_slice())?;
-            print_sealed(rt, &year)
-        }
-        Err(fault) => fail_sealing(rt, fault),
-    }
+    let year = or_fail(rt, PROGRAM, seal_text(rt.alloc(), text.as_slice()))?;
+    fs::write(rt, file, year.file.as_slice())?;
+    print_sealed(rt, &year)
 }
 
 /// Prints the list that a file holds, as text.
 pub(crate) fn read(rt: &HostRuntime, file: &str) -> anyhow::Result<()> {
     let bytes = load(rt, file)?;
-    match text_of(rt.alloc(), bytes.as_slice()) {
-        Ok(text) => {
-            rt.print(text.as_str())?;
-            Ok(())
-        }
-        Err(ReadFault::File(broken)) => fail_reading(rt, broken, bytes.len()),
-        Err(ReadFault::Memory) => fail(rt, words::NO_MEMORY),
-    }
+    let text = or_fail(rt, PROGRAM, text_of(rt.alloc(), bytes.as_slice()))?;
+    rt.print(text.as_str())?;
+    Ok(())
 }
 
-/// Prints what a file holds, for people.
-pub(crate) fn show(rt: &HostRuntime, file: &str, table: Table) -> anyhow::Result<()> {
+/// Prints what a file holds, for people, with the table that its list leads to.
+pub(crate) fn show<T: Table>(rt: &HostRuntime, file: &str, table: T) -> anyhow::Result<()> {
     let bytes = load(rt, file)?;
-    match Reader::open(bytes.as_slice()) {
-        Ok(reader) => print_shown(rt, &reader, bytes.len(), table),
-        Err(broken) => fail_reading(rt, broken, bytes.len()),
-    }
+    let reader = or_fail(rt, PROGRAM, Reader::open(bytes.as_slice()))?;
+    print_shown(rt, &reader, table)
 }
 
 /// Prints the header, the entries, the chain and the table of a file that was opened.
-pub(crate) fn print_shown(
+pub(crate) fn print_shown<T: Table>(
     rt: &HostRuntime,
     reader: &Reader,
-    length: usize,
-    table: Table,
+    table: T,
 ) -> anyhow::Result<()> {
-    let Ok(text) = show::text(rt.alloc(), reader, length, table) else {
-        return fail(rt, words::NO_MEMORY);
-    };
+    let text = or_fail(rt, PROGRAM, show::text(rt.alloc(), reader, table))?;
     rt.print(text.as_str())?;
     Ok(())
 }
 
 /// Prints one line on what was sealed.
 pub(crate) fn print_sealed(rt: &HostRuntime, year: &SealedYear) -> anyhow::Result<()> {
-    let Ok(line) = words::sealed_line(rt.alloc(), year) else {
-        return fail(rt, words::NO_MEMORY);
-    };
+    let line = or_fail(rt, PROGRAM, sealed_line(rt.alloc(), year))?;
     rt.print(line.as_str())?;
     Ok(())
 }
 
-/// Says on the error stream why the program ends, and ends it.
-pub(crate) fn fail(rt: &HostRuntime, said: &str) -> anyhow::Result<()> {
-    rt.eprintln(said)?;
-    Err(anyhow!("refused"))
-}
-
-fn fail_sealing(rt: &HostRuntime, fault: SealFault) -> anyhow::Result<()> {
-    let said = words::of_seal_fault(rt.alloc(), fault)?;
-    fail(rt, said.as_str())
-}
-
-fn fail_reading(rt: &HostRuntime, broken: Broken, length: usize) -> anyhow::Result<()> {
-    let said = words::of_broken(rt.alloc(), broken, length)?;
-    fail(rt, said.as_str())
+// One line on what was sealed.
+fn sealed_line(heap: Global, year: &SealedYear) -> Result<String, Fault> {
+    let entries = year.entries;
+    let bytes = year.file.len();
+    let mut line = format!(in heap; "sealed {entries} entries, {bytes} bytes, ")?;
+    write_chain(&mut line, year.chain.members())?;
+    Ok(line)
 }
 
 // The bytes of a file; where it cannot be read that is said.
 fn load(rt: &HostRuntime, path: &str) -> anyhow::Result<Vec<u8>> {
-    match fs::read(rt, path) {
-        Ok(bytes) => Ok(bytes),
-        Err(e) => {
-            eprintln!(rt; "year: {path}: {e}")?;
-            Err(anyhow!("no such file"))
-        }
-    }
+    or_fail_at(rt, PROGRAM, path, fs::read(rt, path))
 }

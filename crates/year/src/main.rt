@@ -5,55 +5,33 @@
 mod demo;
 mod jobs;
 mod show;
-mod words;
+#[cfg(test)]
+mod tests;
 
+use layers::Stack;
+use machine::Ledger;
 use std::env;
 use std::process::ExitCode;
 
-const USAGE: &str =
-    "year: usage: year | year seal LIST FILE | year read FILE | year show FILE [ledger]";
+const USAGE: &str = "usage: year | year seal LIST FILE | year read FILE | year show FILE [ledger]";
 
-// A refusal was said where it was found: an error only sets the status.
 fn main(rt: HostRuntime) -> ExitCode {
-    match run(&rt) {
-        Ok(()) => ExitCode::SUCCESS,
-        Err(_) => ExitCode::FAILURE,
-    }
+    console::status(run(&rt))
 }
 
 fn run(rt: &HostRuntime) -> anyhow::Result<()> {
-    let mut given = env::args(rt)?;
-    let _program = given.next();
-    let Some(job) = given.next() else {
-        return demo::run(rt);
-    };
-    let Some(first) = given.next() else {
-        return jobs::fail(rt, USAGE);
-    };
-    let second = given.next();
-    if given.next().is_some() {
-        return jobs::fail(rt, USAGE);
-    }
-    match second {
-        None => on_one(rt, job.as_str(), first.as_str()),
-        Some(second) => on_two(rt, job.as_str(), first.as_str(), second.as_str()),
-    }
-}
-
-// A job on one file.
-fn on_one(rt: &HostRuntime, job: &str, file: &str) -> anyhow::Result<()> {
-    match job {
-        "read" => jobs::read(rt, file),
-        "show" => jobs::show(rt, file, show::Table::Weights),
-        _ => jobs::fail(rt, USAGE),
-    }
-}
-
-// A job with one more word.
-fn on_two(rt: &HostRuntime, job: &str, first: &str, second: &str) -> anyhow::Result<()> {
-    match (job, second) {
-        ("seal", file) => jobs::seal(rt, first, file),
-        ("show", "ledger") => jobs::show(rt, first, show::Table::Holdings),
-        _ => jobs::fail(rt, USAGE),
+    let given = env::args(rt)?.collect::<Vec<_>>(rt.alloc())?;
+    let words = given
+        .iter()
+        .skip(1)
+        .map(|word| word.as_str())
+        .collect::<Vec<_>>(rt.alloc())?;
+    match words.as_slice() {
+        [] => demo::run(rt),
+        ["seal", list, file] => jobs::seal(rt, list, file),
+        ["read", file] => jobs::read(rt, file),
+        ["show", file] => jobs::show(rt, file, Stack::new()),
+        ["show", file, "ledger"] => jobs::show(rt, file, Ledger::new()),
+        _ => console::fail(rt, jobs::PROGRAM, &USAGE),
     }
 }

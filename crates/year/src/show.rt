@@ -2,44 +2,55 @@
 
 use archive::{Entry, Reader};
 use command::{Chain, Command, Verb};
-use layers::{Stack, new_stack, stack_weight};
+use layers::Stack;
 use listing::{Fault, write_chain};
 use machine::{Ledger, Machine};
 use std::alloc::Global;
 
-/// Which table the list is replayed into.
-#[derive(Clone, Copy)]
-pub(crate) enum Table {
-    Weights,
-    Holdings,
+/// A machine that a list is replayed into, and that is shown after it.
+pub(crate) trait Table: Machine + Drop {
+    /// Appends its numbers that are not 0, under a heading.
+    fn write_numbers(&self, text: &mut String) -> Result<(), Fault>;
+}
+
+impl Table for Stack {
+    fn write_numbers(&self, text: &mut String) -> Result<(), Fault> {
+        writeln!(text, "weights that are not 0, after freeze and once-only:")?;
+        write_rows(text, "backend", |backend| self.weight(backend))
+    }
+}
+
+impl Table for Ledger {
+    fn write_numbers(&self, text: &mut String) -> Result<(), Fault> {
+        writeln!(text, "addresses held:")?;
+        write_rows(text, "host", |host| self.holding(host))?;
+        let free = self.free();
+        writeln!(text, "  free: {free}")?;
+        Ok(())
+    }
+}
+
+// A row for each of the 64 whose number is not 0.
+fn write_rows<F: Fn(u8) -> u16>(text: &mut String, name: &str, number_of: F) -> Result<(), Fault>
+    requires { F.IsAlwaysCallable number_of }
+{
+    for place in 0..64 {
+        let number = number_of(place);
+        if number != 0 {
+            writeln!(text, "  {name} {place}: {number}")?;
+        }
+    }
+    Ok(())
 }
 
 /// The header, the entries, the chain after all of them, and the table that the list leads to.
-pub(crate) fn text(
-    heap: Global,
-    reader: &Reader,
-    length: usize,
-    table: Table,
-) -> Result<String, Fault> {
-    let mut text = String::new(heap);
+pub(crate) fn text<T: Table>(heap: Global, reader: &Reader, mut table: T) -> Result<String, Fault> {
     let count = reader.count();
-    write!(
-        text,
-        "archive of {count} entries, {length} bytes, founding "
-    )?;
+    let bytes = reader.file.len();
+    let mut text = format!(in heap; "archive of {count} entries, {bytes} bytes, founding ")?;
     write_chain(&mut text, reader.members())?;
-    match table {
-        Table::Weights => {
-            let mut stack = new_stack();
-            write_entries(&mut text, reader, &mut stack)?;
-            write_weights(&mut text, &stack)?;
-        }
-        Table::Holdings => {
-            let mut ledger = Ledger::new();
-            write_entries(&mut text, reader, &mut ledger)?;
-            write_holdings(&mut text, &ledger)?;
-        }
-    }
+    write_entries(&mut text, reader, &mut table)?;
+    table.write_numbers(&mut text)?;
     Ok(text)
 }
 
@@ -49,15 +60,10 @@ fn write_entries<M: Machine>(
     reader: &Reader,
     machine: &mut M,
 ) -> Result<(), Fault> {
-    let Ok(founding) = Chain::new(reader.members()) else {
+    let Ok(mut chain) = Chain::new(reader.members()) else {
         return Ok(());
     };
-    let mut chain = founding;
-    let mut entries = reader.entries();
-    for number in 0..reader.count() {
-        let Some(entry) = entries.next() else {
-            break;
-        };
+    for (number, entry) in (1..=reader.count()).zip(reader.entries()) {
         if let Some(command) = entry.command() {
             write_line(text, number, &entry, &command)?;
             chain = chain.after(&command);
@@ -70,7 +76,7 @@ fn write_entries<M: Machine>(
 
 // A machine gets only the commands that are for it.
 fn replay<M: Machine>(machine: &mut M, command: &Command) {
-    if command.verb >= 16 {
+    if Verb::try_from(command.verb) == Ok(Verb::Change) {
         let _ = machine.apply(command);
     }
 }
@@ -78,55 +84,28 @@ fn replay<M: Machine>(machine: &mut M, command: &Command) {
 // The line of one entry, numbered from 1.
 fn write_line(
     text: &mut String,
-    before: usize,
+    number: usize,
     entry: &Entry,
     command: &Command,
 ) -> Result<(), Fault> {
-    let number = before.saturating_add(1);
     let offset = entry.offset;
-    let (verb, origin, serial, a, b) = (
-        command.verb,
-        command.origin,
-        command.serial,
-        command.a,
-        command.b,
-    );
+    let Command {
+        verb,
+        origin,
+        serial,
+        a,
+        b,
+    } = *command;
     write!(text, "{number:>6}  at {offset:<7} ")?;
-    match Verb::of(verb) {
-        Some(Verb::Noop) => writeln!(text, "no-op")?,
-        Some(Verb::Add) => writeln!(text, "add director {a}")?,
-        Some(Verb::Remove) => writeln!(text, "remove director {a}")?,
-        Some(Verb::Change) => writeln!(
+    match Verb::try_from(verb) {
+        Ok(Verb::Noop) => writeln!(text, "no-op")?,
+        Ok(Verb::Add) => writeln!(text, "add director {a}")?,
+        Ok(Verb::Remove) => writeln!(text, "remove director {a}")?,
+        Ok(Verb::Change) => writeln!(
             text,
             "change by verb {verb}, origin {origin}, serial {serial}, a {a}, b {b}"
         )?,
-        None => writeln!(text, "unknown verb {verb}")?,
+        Err(_) => writeln!(text, "unknown verb {verb}")?,
     }
-    Ok(())
-}
-
-// The weights that are not 0.
-fn write_weights(text: &mut String, stack: &Stack) -> Result<(), Fault> {
-    writeln!(text, "weights that are not 0, after freeze and once-only:")?;
-    for backend in 0..64u8 {
-        let weight = stack_weight(stack, backend);
-        if weight != 0 {
-            writeln!(text, "  backend {backend}: {weight}")?;
-        }
-    }
-    Ok(())
-}
-
-// The holdings that are not 0, and what is free.
-fn write_holdings(text: &mut String, ledger: &Ledger) -> Result<(), Fault> {
-    writeln!(text, "addresses held:")?;
-    for host in 0..64u8 {
-        let held = ledger.holding(host);
-        if held != 0 {
-            writeln!(text, "  host {host}: {held}")?;
-        }
-    }
-    let free = ledger.free();
-    writeln!(text, "  free: {free}")?;
     Ok(())
 }

@@ -1,10 +1,10 @@
 -- A year's list, sealed and read back.
 use Rattle.std.specs.Prelude.{◌≡◌, ℕ, ◌+◌, ◌<◌, cond, List, length, Some, None, Ok, Err, vec_items}
-use Rattle.command.specs.Chains.{membership, after_all}
+use Rattle.command.specs.Chains.{after_all}
 use Rattle.archive.specs.declared.writing.Refusal.TheVariants.{Full}
 use Rattle.command.specs.declared.Command.{Command}
 use Rattle.archive.specs.Layout.{Archive, layout, most}
-use Rattle.archive.specs.Lists.{refused}
+use Rattle.archive.specs.declared.lists.ListRefusal.TheVariants.{Entry as Refused}
 use Rattle.archive.specs.declared.entries.Entries.{Entries}
 use Rattle.archive.specs.Reading.{fault, members_of, scanned, scan_all}
 use Rattle.listing.specs.declared.faults.Fault.TheVariants.{Memory}
@@ -23,12 +23,12 @@ pub record Year (text : List ℕ) (y : SealedYear) : Type 0 where
   pub told : read_text text ≡ Ok list
   pub file : Archive (vec_items y.file) list.chain.members list.commands
   pub entries : y.entries ≡ length list.commands
-  pub chain : membership y.chain ≡ after_all list.chain list.commands
+  pub chain : y.chain ≡ after_all list.chain list.commands
 
 -- why commands make no file: only their number can be refused, at the 65,536th entry; else memory ran out
 abbrev pub Unfiled : List Command → SealFault → Type 0
 Unfiled cs (NoList e) = ⊥
-Unfiled cs (Entry e) = (most < length cs) × (e ≡ refused (most + 1) Full)
+Unfiled cs (Entry e) = (most < length cs) × (e ≡ Refused (most + 1) Full)
 Unfiled cs NoMemory = Unit {0}
 
 -- why a text was not sealed: it is no list, for this fault; or its list has too many entries; or memory ran out
@@ -46,9 +46,9 @@ pub record Told (file text : List ℕ) : Type 0 where
   pub read : read_text text ≡ Ok list
   pub again : layout list.chain.members list.commands ≡ file
 
--- why a file was not read: the offset of its first broken part; or memory ran out
+-- why a file was not read: its first broken part; or memory ran out
 abbrev pub Unread : List ℕ → ReadFault → Type 0
-Unread file (File b) = fault file ≡ Some b.offset
+Unread file (File b) = fault file ≡ Some b
 Unread file NoText = fault file ≡ None
 
 -- the lines of the entries that are to come

@@ -6,9 +6,11 @@ ghost use Rattle.std.specs.Prelude.{◌≡◌};
 
 use archive::{Broken, ListRefusal};
 use std::alloc::AllocError;
+use std::error::Error;
+use std::fmt;
 
 /// Why a list was not sealed.
-#[derive(Clone, Copy)]
+#[derive(Clone, Copy, PartialEq, Eq, Debug)]
 pub enum SealFault {
     /// The text is no list.
     List(listing::Fault),
@@ -19,13 +21,43 @@ pub enum SealFault {
 }
 
 /// Why a file was not read.
-#[derive(Clone, Copy)]
+#[derive(Clone, Copy, PartialEq, Eq, Debug)]
 pub enum ReadFault {
     /// The file is no archive.
     File(Broken),
     /// The file is an archive, and no memory was left for its text.
     Memory,
 }
+
+impl fmt::Display for SealFault {
+    fn fmt<W: fmt::Write>(&self, f: &mut fmt::Formatter<W>) -> fmt::Result {
+        match self {
+            SealFault::List(fault) => write!(f, "{fault}"),
+            SealFault::Entry(ListRefusal::Entry { number, refusal }) => {
+                // Entry 1 stands in line 2, after the chain.
+                let line = number.saturating_add(1);
+                write!(f, "refused {} at line {line}: {refusal}", refusal.number())
+            }
+            SealFault::Entry(refused) => write!(f, "{refused}"),
+            SealFault::Memory => write!(f, "no memory is left"),
+        }
+    }
+}
+
+impl Error for SealFault {}
+
+impl fmt::Display for ReadFault {
+    fn fmt<W: fmt::Write>(&self, f: &mut fmt::Formatter<W>) -> fmt::Result {
+        match self {
+            ReadFault::File(broken) => write!(f, "{broken}"),
+            ReadFault::Memory => write!(f, "no memory is left"),
+        }
+    }
+}
+
+impl Error for ReadFault {}
+
+// Written out and not derived: clauses name the fault that a `?` makes.
 
 impl From<listing::Fault> for SealFault {
     ghost from_gives = { λ e r. r ≡ List e };

@@ -24,9 +24,10 @@ fn write_entries(text: &mut String, entries: Entries) -> Result<(), Fault>
     ensures { OnOk result (string_bytes text.new
         ≡ string_bytes text.old ++ lines_left entries.entry) }
 {
-    let mut left = entries;
-    while let Some(command) = left.next_command() {
-        write_entry(text, &command)?;
+    for entry in entries {
+        if let Some(command) = entry.command() {
+            write_entry(text, &command)?;
+        }
     }
     Ok(())
 }

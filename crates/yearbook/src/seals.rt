@@ -4,7 +4,7 @@ ghost use Rattle.archive.specs.Layout.{Archive};
 ghost use Rattle.command.specs.Commands.{well_formed};
 ghost use Rattle.command.specs.Members.{valid_chain};
 ghost use Rattle.std.specs.Prelude.{◌≡◌, true, MatchResult};
-ghost use Rattle.std.specs.List.{AllByRecursion};
+ghost use Rattle.std.specs.List.{AllPass};
 ghost use Rattle.yearbook.specs.Years.{Year, Unsealed, Unfiled};
 
 use crate::SealFault;
@@ -14,7 +14,7 @@ use listing::read_list;
 use std::alloc::Global;
 
 /// A year's archive file, how many entries it has, and the chain after all of them.
-#[derive(Drop)]
+#[derive(Drop, PartialEq, Eq, Debug)]
 pub struct SealedYear {
     pub file: Vec<u8>,
     pub entries: usize,
@@ -38,13 +38,11 @@ pub fn seal_text(heap: Global, text: &[u8]) -> Result<SealedYear, SealFault>
 // The archive file of a founding chain and commands.
 fn file_of(heap: Global, members: &[u8], commands: &[Command]) -> Result<Vec<u8>, SealFault>
     requires chain { valid_chain members.now ≡ true }
-    requires formed { AllByRecursion (λ c. well_formed c ≡ true) commands.now }
+    requires formed { AllPass well_formed commands.now }
     ensures { MatchResult result (λ v. Archive v.items members.now commands.now)
         (Unfiled commands.now) }
 {
-    let Some(space) = space_for(members.len(), commands.len()) else {
-        return Err(SealFault::Memory);
-    };
+    let space = space_for(members.len(), commands.len()).ok_or(SealFault::Memory)?;
     let mut area = vec![in heap; 0u8; space]?;
     let sealed = write_list(area.as_mut_slice(), members, commands)?;
     area.truncate(sealed.length());

@@ -1,52 +1,36 @@
-use Rattle.std.proofs.Common.{codes, sym, ◌∙◌}
-use Rattle.listing.specs.Answers.{words_left}
-use Rattle.listing.proofs.Lined as lined
+use Rattle.std.proofs.Common.{◌∙◌, arith, rules}
+use Rattle.listing.proofs.Lined.{entry_none, entry_word, entry_other, entry_untold}
 use Rattle.listing.proofs.entries.read_entry.Goals as goal
 
-pub returns-in_err-first : goal.returns-in_err-first
-returns-in_err-first c =
-    c.from_residual.ensures ∙
-    sym (lined.entry_none c.args.line.now _ c.of-words.ensures c.in_err-first.ensures.0)
+pub returns-in_err-next : goal.returns-in_err-next
+returns-in_err-next c = grind (arith, entry_none)
 
-pub returns-then-eq : goal.returns-then-eq
-returns-then-eq c =
+pub returns-in_err-ok : goal.returns-in_err-ok
+returns-in_err-ok c =
+    c.from_residual-in_err-ok.ensures ∙
+    entry_untold _ _ _ _ c.words-words.ensures c.in_ok-next.ensures.steps (λ u. search rules)
+
+pub returns-in-noop : goal.returns-in-noop
+returns-in-noop c =
     c.end.ensures ∙
-    sym (lined.entry_from c.args.line.now _ _ _ c.of-words.ensures c.in_ok-first.ensures ∙
-    lined.entry_noop c.in_ok-first.first.now (words_left c.next.new.self)
-    (lined.word_told _ (codes "noop") _ _ c.as_slice.ensures c.if-eq.ensures))
+    entry_word _ _ _ _ _ _ c.words-words.ensures c.in_ok-next.ensures.steps (search rules) c.in-noop.is
 
-pub returns-then-eq-2 : goal.returns-then-eq-2
-returns-then-eq-2 c =
+pub returns-in-add : goal.returns-in-add
+returns-in-add c =
     c.read_member.ensures ∙
-    sym (lined.entry_from c.args.line.now _ _ _ c.of-words.ensures c.in_ok-first.ensures ∙
-    lined.entry_add c.in_ok-first.first.now (words_left c.next.new.self)
-    (lined.word_told _ (codes "noop") _ _ c.as_slice.ensures c.if-eq.ensures)
-    (lined.word_told _ (codes "add") _ _ c.as_slice-2.ensures c.if-eq-2.ensures))
+    entry_word _ _ _ _ _ _ c.words-words.ensures c.in_ok-next.ensures.steps (search rules) c.in-add.is
 
-pub returns-then-eq-3 : goal.returns-then-eq-3
-returns-then-eq-3 c =
-    c.read_member-then-eq-3.ensures ∙
-    sym (lined.entry_from c.args.line.now _ _ _ c.of-words.ensures c.in_ok-first.ensures ∙
-    lined.entry_remove c.in_ok-first.first.now (words_left c.next.new.self)
-    (lined.word_told _ (codes "noop") _ _ c.as_slice.ensures c.if-eq.ensures)
-    (lined.word_told _ (codes "add") _ _ c.as_slice-2.ensures c.if-eq-2.ensures)
-    (lined.word_told _ (codes "remove") _ _ c.as_slice-3.ensures c.if-eq-3.ensures))
+pub returns-in-remove : goal.returns-in-remove
+returns-in-remove c =
+    c.read_member-in-remove.ensures ∙
+    entry_word _ _ _ _ _ _ c.words-words.ensures c.in_ok-next.ensures.steps (search rules) c.in-remove.is
 
-pub returns-then-eq-4 : goal.returns-then-eq-4
-returns-then-eq-4 c =
+pub returns-in-change : goal.returns-in-change
+returns-in-change c =
     c.read_change.ensures ∙
-    sym (lined.entry_from c.args.line.now _ _ _ c.of-words.ensures c.in_ok-first.ensures ∙
-    lined.entry_change c.in_ok-first.first.now (words_left c.next.new.self)
-    (lined.word_told _ (codes "noop") _ _ c.as_slice.ensures c.if-eq.ensures)
-    (lined.word_told _ (codes "add") _ _ c.as_slice-2.ensures c.if-eq-2.ensures)
-    (lined.word_told _ (codes "remove") _ _ c.as_slice-3.ensures c.if-eq-3.ensures)
-    (lined.word_told _ (codes "change") _ _ c.as_slice-4.ensures c.if-eq-4.ensures))
+    entry_word _ _ _ _ _ _ c.words-words.ensures c.in_ok-next.ensures.steps (search rules) c.in-change.is
 
-pub returns : goal.returns
-returns c =
-    sym (lined.entry_from c.args.line.now _ _ _ c.of-words.ensures c.in_ok-first.ensures ∙
-    lined.entry_other c.in_ok-first.first.now (words_left c.next.new.self)
-    (lined.word_told _ (codes "noop") _ _ c.as_slice.ensures c.if-eq.ensures)
-    (lined.word_told _ (codes "add") _ _ c.as_slice-2.ensures c.if-eq-2.ensures)
-    (lined.word_told _ (codes "remove") _ _ c.as_slice-3.ensures c.if-eq-3.ensures)
-    (lined.word_told _ (codes "change") _ _ c.as_slice-4.ensures c.if-eq-4.ensures))
+pub returns-in_default : goal.returns-in_default
+returns-in_default c =
+    entry_other _ _ _ _ _ c.words-words.ensures c.in_ok-next.ensures.steps (search rules)
+    c.in_default.not-noop c.in_default.not-add c.in_default.not-remove c.in_default.not-change

@@ -1,14 +1,11 @@
 use Rattle.std.proofs.Common.{◌≡◌, ◌+◌, length, vec_items}
-use Rattle.listing.specs.Answers.{lines_left}
+use Rattle.std.specs.Iterator.Adapters.{zip_first, zip_second}
 use Rattle.listing.specs.Reading.{entries_from}
 use Rattle.listing.proofs.Whole.{after}
 use Rattle.listing.proofs.lists.read_entries.Given as goal
 
-abbrev pub invariant-loop-bytes : goal.invariant-loop-bytes
-invariant-loop-bytes l =
-    (l.line + length (lines_left l.lines) ≡ 1 + length (lines_left l.initial.lines)) ×
-    (entries_from 2 (lines_left l.initial.lines) ≡
-    after (vec_items l.commands) (entries_from (l.line + 1) (lines_left l.lines)))
-
-abbrev pub decreases-loop-bytes : goal.decreases-loop-bytes
-decreases-loop-bytes l = length (lines_left l.lines)
+abbrev pub invariant-loop-line : goal.invariant-loop-line
+invariant-loop-line l =
+    ((zip_first l.line-iterator).start + length (zip_second l.line-iterator) ≡ 2 + length l.fn.lines) ×
+    (entries_from 2 l.fn.lines ≡
+    after (vec_items l.commands) (entries_from (zip_first l.line-iterator).start (zip_second l.line-iterator)))

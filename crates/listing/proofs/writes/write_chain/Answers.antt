@@ -4,12 +4,10 @@ use Rattle.listing.proofs.Written.{spaced_more, spaced_all}
 use Rattle.listing.proofs.writes.write_chain.Goals as goal
 
 pub loop-member-preserved : goal.loop-member-preserved
-loop-member-preserved c =
-    spaced_more c.args.members.now _ _ _ c.loop-member.member-index c.loop-member-test.true
-    c.loop-member.invariant c.in_ok-write_number.ensures
+loop-member-preserved c = grind (arith, spaced_more, c.type_inv.members)
 
-pub returns : goal.returns
+pub returns-clause-written : goal.returns-clause-written
 unfolding encode
-returns c =
+returns-clause-written c =
     spaced_all c.args.members.now _ _ _ _ (codes "chain") c.loop-member.member-index (omega arith)
     c.in_ok-push_str.ensures.bytes c.loop-member.invariant c.in_ok-push.ensures.bytes

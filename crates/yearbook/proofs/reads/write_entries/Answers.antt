@@ -1,34 +1,27 @@
-use Rattle.std.proofs.Common.{ℕ, List, ◌++◌, length, string_bytes, sym, ap, ◌∙◌, ap₂, append_assoc, append-nil, arith}
-use Rattle.archive.specs.Reading.{rest, scan_all}
-use Rattle.listing.specs.Writing.{entries_text, ending, line_of}
-use Rattle.yearbook.proofs.Lines.{lines_end, lines_more, shorter}
+use Rattle.std.proofs.Common.{ℕ, List, ◌++◌, string_bytes, sym, ap, ◌∙◌, append_assoc, append-nil}
+use Rattle.listing.specs.Writing.{ending, line_of}
+use Rattle.yearbook.specs.Years.{lines_left}
+use Rattle.yearbook.proofs.Lines.{lines_end, lines_more}
 use Rattle.yearbook.proofs.reads.write_entries.Goals as goal
 
-pub loop-command-smaller : goal.loop-command-smaller
-loop-command-smaller c =
-    let bs = c.loop-command.left.rest.now in
-    let s = shorter c.loop-command.left.end bs c.in-Some.command c.in-Some.ensures.answer in
-    let l = ap length c.next_command.ensures.after in
-    omega arith
-
-pub loop-command-preserved : goal.loop-command-preserved
-loop-command-preserved c =
-    let bs = c.loop-command.left.rest.now in
-    let e = c.loop-command.left.end in
-    let out = string_bytes c.loop-command.text in
-    let line = ending (line_of c.in-Some.command) in
-    let left = entries_text (scan_all e (rest bs)).commands in
-    ap₂ (λ (xs ys : List ℕ). xs ++ ys) c.in_ok-write_entry.ensures
-    (ap₂ (λ (n : ℕ) (xs : List ℕ). entries_text (scan_all n xs).commands) c.next_command.ensures.same
-    c.next_command.ensures.after)
-    ∙ append_assoc out line left
-    ∙ ap (λ (xs : List ℕ). out ++ xs) (sym (lines_more e bs c.in-Some.command c.in-Some.ensures.answer))
-    ∙ c.loop-command.invariant
+pub loop-entry-preserved-in-Continue-1 : goal.loop-entry-preserved-in-Continue-1
+loop-entry-preserved-in-Continue-1 c =
+    let s = c.loop-entry.entry-iterator in
+    let t = c.next.new.self in
+    let out = string_bytes c.loop-entry.text in
+    let more = lines_more s t c.in-Some.entry c.in-Some-command.command c.in-Some.ensures.steps
+    (sym c.in-Some-command.ensures.answer) in (
+      tt,
+      tt,
+      ap (λ (xs : List ℕ). xs ++ lines_left t) c.in_ok-write_entry.ensures.written
+          ∙ append_assoc out (ending (line_of c.in-Some-command.command)) (lines_left t)
+          ∙ ap (λ (xs : List ℕ). out ++ xs) (sym more) ∙ c.loop-entry.invariant.2,
+    )
 
 pub returns : goal.returns
 returns c =
-    let bs = c.loop-command.left.rest.now in
-    let e = c.loop-command.left.end in
-    let out = string_bytes c.loop-command.text in
-    sym (append-nil out) ∙ ap (λ (xs : List ℕ). out ++ xs) (sym (lines_end e bs c.in_default.ensures.answer))
-    ∙ c.loop-command.invariant
+    let out = string_bytes c.loop-entry.text in
+    let none = lines_end c.loop-entry.entry-iterator c.next.new.self c.in-None.ensures.steps in
+    sym (append-nil out) ∙ ap (λ (xs : List ℕ). out ++ xs) (sym none)
+    ∙ c.loop-entry.invariant.2
+    ∙ ap (λ e. string_bytes c.args.text.now ++ lines_left e) c.into_iter-entry-iterator.ensures.into_iter_gives

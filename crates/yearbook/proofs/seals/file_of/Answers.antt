@@ -1,15 +1,18 @@
-use Rattle.std.proofs.Common.{◌≡◌, ℕ, ◌≤◌, Bool, true, false, cond, List, length, take, Some, None, vec_items, sym, ◌∙◌, subst, ap₂, arith}
+use Rattle.std.proofs.Common.{◌≡◌, ℕ, ◌≤◌, Bool, true, false, cond, List, length, take, Some, None, Ok, Option, vec_items, sym, ◌∙◌, subst, ap₂, arith}
 use Rattle.std.proofs.lemmas.Result.{err_from_is_err_and}
 use Rattle.std.proofs.lemmas.List.{with_items_is}
-use Rattle.archive.proofs.Scans.{some_none}
+use Rattle.std.specs.Option.{ok_or}
 use Rattle.archive.specs.Layout.{Archive}
 use Rattle.archive.specs.Lists.{space_for}
 use Rattle.yearbook.proofs.Listing.{overfull}
 use Rattle.yearbook.proofs.seals.file_of.Goals as goal
 
-space-is : (b : Bool) (n m : ℕ) → Some n ≡ cond b (Some m) None → n ≡ m
-space-is true n m h = cc
-space-is false n m h = absurd (some_none h)
+-- the space that was asked for
+space-is : {E : Type 0} (n m : ℕ) (o : Option ℕ) (e : E) (b : Bool) → Ok n ≡ ok_or o e → o ≡ cond b (Some m) None
+    → n ≡ m
+space-is n m None e b p q = absurd (cc)
+space-is n m (Some k) e true p q = cc
+space-is n m (Some k) e false p q = absurd (cc)
 
 pub returns : goal.returns
 returns c =
@@ -28,7 +31,7 @@ returns-in_err-sealed c =
     let p = err_from_is_err_and c.from_residual-in_err-sealed.result c.from_residual-in_err-sealed.ensures.1 in
     let space : space_for (length c.args.members.now) (length c.args.commands.now) ≤ length
     c.as_mut_slice.result.now =
-    let n = space-is _ c.in-Some.space _ c.in-Some.ensures in
+    let n = space-is c.in_ok-space.space _ _ _ _ c.in_ok-space.ensures.value c.space_for.ensures in
     let m = c.in_ok-area.ensures.len in
     omega arith in
     rw (p.1, p.2)

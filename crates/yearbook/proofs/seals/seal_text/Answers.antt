@@ -2,7 +2,7 @@ use Rattle.std.proofs.Common.{ℕ, List, vec_items, sym, ap, ◌∙◌, subst₂
 use Rattle.std.proofs.lemmas.Result.{err_from_is_err_and}
 use Rattle.command.specs.declared.Command.{Command}
 use Rattle.command.specs.Members.{valid_chain}
-use Rattle.command.specs.Chains.{membership, after_all}
+use Rattle.command.specs.Chains.{after_all}
 use Rattle.archive.specs.Layout.{Archive}
 use Rattle.listing.specs.Answers.{list_of}
 use Rattle.yearbook.proofs.Listing.{read_sound, unsealed}
@@ -14,7 +14,7 @@ file_of-requires c =
     let sound = read_sound c.args.text.now (list_of c.in_ok-list.list)
     (sym c.in_ok-list.ensures.answer) in
     record {
-      chain = ap valid_chain c.members.ensures
+      chain = ap valid_chain c.members.ensures.members
           ∙ sound.chain;
       formed = rw c.as_slice.ensures.value sound.formed;
     }
@@ -26,12 +26,12 @@ returns c =
     record {
       list = l;
       told = sym c.in_ok-list.ensures.answer;
-      file = subst₂ (λ (ms : List ℕ) (cs : List Command). Archive file ms cs) c.members.ensures
+      file = subst₂ (λ (ms : List ℕ) (cs : List Command). Archive file ms cs) c.members.ensures.members
           c.as_slice.ensures.value
           c.in_ok-file.ensures;
       entries = c.len.ensures ∙ c.in_ok-list.list.commands.ok.0;
       chain = c.after_all-chain.ensures
-          ∙ ap (after_all (membership c.in_ok-list.list.chain)) c.as_slice-2.ensures.value;
+          ∙ ap (after_all c.in_ok-list.list.chain) c.as_slice-2.ensures.value;
     }
 
 pub returns-in_err-list : goal.returns-in_err-list

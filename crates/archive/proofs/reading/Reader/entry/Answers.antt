@@ -9,7 +9,8 @@ returns-clause-answer c =
     let p = c.in_ok-checked_sub.ensures in
     let n : suc c.in_ok-checked_sub.field-0 ≡ c.args.n = omega arith in
     let ran = c.nth.ensures.ran in
-    skipped ran.0 c.in_ok-checked_sub.field-0 c.entries.result ran.1.0 c.nth.new.self c.nth.result ran.1.1 ran.1.2 ran.2
+    skipped ran.0 c.in_ok-checked_sub.field-0 c.entries.result ran.1.0 c.nth.new.self c.nth.result ran.1.1
+    ran.1.2 ran.2
     ∙ ap₂ (entry_at (suc c.in_ok-checked_sub.field-0)) c.entries.ensures.end c.entries.ensures.rest
     ∙ ap (λ (k : ℕ). entry_at k (count_at f) (body_of f)) n
 

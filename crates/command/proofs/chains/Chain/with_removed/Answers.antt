@@ -13,7 +13,7 @@ returns-in_default c =
     c.self.view_is
     ∙ sym (removed_not c.args.self.now c.args.a
     (missed c.args.a c.args.self.now.members
-    (ap (place_of c.args.a) (sym c.members.ensures) ∙ sym c.place_of.ensures ∙ c.in_default.is)))
+    (ap (place_of c.args.a) (sym c.members.ensures.members) ∙ sym c.place_of.ensures ∙ c.in_default.is)))
 
 -- the chain that is left
 abbrev left : (c : goal.After-result-2-1) → Inside
@@ -31,7 +31,7 @@ is_left c =
     let l : length (set me.places at 0) ≡ 7 = length-set me.places at 0 ∙ c.self.told in
     let e = ap (λ (m : Membership). m.members) c.self.view_is in
     let p : place_of c.args.a (take me.count me.places) ≡ Some at =
-    ap (place_of c.args.a) (e ∙ sym c.members.ensures) ∙ sym c.place_of.ensures ∙ c.in-Some.is in
+    ap (place_of c.args.a) (e ∙ sym c.members.ensures.members) ∙ sym c.place_of.ensures ∙ c.in-Some.is in
     let f = found c.args.a at (take me.count me.places) p in
     let n = counted me.count me.places c.self.invariant.few c.self.invariant.rest in
     after_removal me c.self.invariant c.args.a at _ (omega arith) p
