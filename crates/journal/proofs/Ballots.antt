@@ -1,7 +1,8 @@
 -- Ballots that were put into one slot, by their order in time.
-use Rattle.std.proofs.Common.{◌≡◌, ℕ, ◌≤◌, max, Bool, true, false, cond, ◌||◌, eqb, ltb, List, [], ◌∷◌, sym, ap, ◌∙◌, arith}
-use Rattle.std.proofs.Math.Bool.{or-true, or-false}
-use Rattle.std.proofs.lemmas.Bool.{and_parts, leb-true, lt-ltb}
+use Rattle.std.proofs.Common.{◌≡◌, ℕ, ◌≤◌, max, Bool, true, cond, ◌||◌, eqb, ltb, List, [], ◌∷◌, sym, arith}
+use Rattle.std.proofs.Math.Bool.{or-false}
+use Rattle.std.proofs.lemmas.Bool.{and_parts, leb-true}
+use Rattle.std.proofs.lemmas.Bool.Decides.{nat_tests}
 use Rattle.command.specs.declared.Command.{Command}
 use Rattle.journal.specs.declared.writes.Entry.{Entry}
 use Rattle.journal.specs.declared.writes.Write.{Write}
@@ -19,13 +20,11 @@ put_high : (t : Bool) (n b : ℕ) (c : Command) (e : Entry) (ws : List Write) �
     → High n (cond t (record { ballot = b; command = c }) e) ws
     → (max (cond t b 0) (highest n ws) ≤ (newest n (cond t (record { ballot = b; command = c }) e) ws).ballot)
     × (e.ballot ≤ (newest n (cond t (record { ballot = b; command = c }) e) ws).ballot)
-put_high true n b c e ws l h = let p = h.puts in let q = h.first in (omega arith, omega arith)
-put_high false n b c e ws l h = let p = h.puts in let q = h.first in (omega arith, omega arith)
+put_high t n b c e ws l h = grind (arith, nat_tests, h.puts, h.first)
 
 put_below : (t : Bool) (b : ℕ) (c : Command) (e : Entry) → e.ballot ≤ b
     → (cond t (record { ballot = b; command = c }) e).ballot ≤ b
-put_below true b c e l = omega arith
-put_below false b c e l = l
+put_below t b c e l = grind (arith, nat_tests)
 
 high : (ws : List Write) (m : Meaning) (n : ℕ) (e : Entry) → all_taken m ws ≡ true → e.ballot ≤ m.promised
     → High n e ws
@@ -55,8 +54,7 @@ put_told : (t : Bool) (n b : ℕ) (c : Command) (e : Entry) (ws : List Write) �
     ≡ (ltb 0 (cond t (record { ballot = b; command = c }) e).ballot || was_put n ws)
     → ltb 0 (newest n (cond t (record { ballot = b; command = c }) e) ws).ballot
     ≡ (ltb 0 e.ballot || (t || was_put n ws))
-put_told true n b c e ws l h = h ∙ ap (λ x. x || was_put n ws) (lt-ltb 0 b l) ∙ sym (or-true (ltb 0 e.ballot))
-put_told false n b c e ws l h = h
+put_told t n b c e ws l h = grind (arith, nat_tests)
 
 told : (ws : List Write) (m : Meaning) (n : ℕ) (e : Entry) → all_taken m ws ≡ true
     → ltb 0 (newest n e ws).ballot ≡ (ltb 0 e.ballot || was_put n ws)

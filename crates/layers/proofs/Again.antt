@@ -1,6 +1,6 @@
 -- A repeated highest serial gets the same answer.
 use Rattle.std.proofs.Common.{◌≡◌, ℕ, ◌<◌, ◌≤◌, true, false, not, ◌&&◌, eqb, ltb, List, [], ◌∷◌, length, sym, refl, ap, ◌∙◌, subst, ⊎_elim, arith}
-use Rattle.std.proofs.lemmas.Bool.{cond-true, cond-false, eq-eqb, ne_eqb, lt-ltb, and_parts, and_from, not-true, both_ways}
+use Rattle.std.proofs.lemmas.Bool.{cond-true, cond-false, eq-eqb, and_parts}
 use Rattle.std.proofs.lemmas.Bool.Decides.{nat_tests}
 use Rattle.command.specs.declared.Command.{Command}
 use Rattle.machine.specs.Rules.{Rule, after}
@@ -31,12 +31,7 @@ begins lower s c l w =
 -- a command of another origin, or with no higher serial, leaves it so
 other : (s : List ℕ) (d : Command) (o n : ℕ) → serial_of s o ≡ n → not (eqb d.origin o && ltb n d.serial) ≡ true
     → serial_of s d.origin < d.serial → eqb d.origin o ≡ false
-other s d o n k h m =
-    ne_eqb d.origin o
-    (λ e.
-    both_ways (eqb d.origin o && ltb n d.serial) (not-true (eqb d.origin o && ltb n d.serial) h)
-    (and_from (eqb d.origin o) (ltb n d.serial) (eq-eqb d.origin o e)
-    (lt-ltb n d.serial (omega (arith, ap (serial_of s) e)))))
+other s d o n k h m = grind (arith, nat_tests)
 
 goes_on : (lower : Rule) (s : List ℕ) (d : Command) (o n a : ℕ) → o ≤ 31 → Keeps s o n a
     → not (eqb d.origin o && ltb n d.serial) ≡ true → Keeps (once_rule lower s d).0 o n a

@@ -1,26 +1,21 @@
 -- What once-only keeps, read and written in its state.
-use Rattle.std.proofs.Common.{◌≡◌, ℕ, ◌+◌, ◌-◌, ◌<◌, ◌≤◌, ltb, Option, None, Some, List, ◌++◌, map, length, get_or, take, drop, set, sym, ap, ◌∙◌, arith}
+use Rattle.std.proofs.Common.{◌≡◌, ℕ, ◌+◌, ◌-◌, ◌<◌, ◌≤◌, Option, None, Some, List, ◌++◌, map, length, get_or, take, drop, set, sym, ap, ◌∙◌, arith}
 use Rattle.std.proofs.lemmas.List.{append_assoc, length-append, length-set, length-map, take_at, drop_at, get_or_append_left, get_or-map, set-append_left, set-append_right, map-set}
-use Rattle.std.proofs.lemmas.Bool.{cond-true, cond-false, le-ltb, eq-eqb}
 use Rattle.std.proofs.lemmas.Bool.Decides.{nat_tests}
 use Rattle.command.specs.declared.Command.{Command}
 use Rattle.layers.specs.declared.once.Kept.{Kept}
 use Rattle.machine.specs.Rules.{Rule}
-use Rattle.layers.specs.Once.{memory, kept_serial, kept_answer, once_rule, serial_of, answer_of, below_once, keeps, is_old, is_repeat}
+use Rattle.layers.specs.Once.{memory, kept_serial, kept_answer, once_rule, serial_of, answer_of, below_once, keeps}
 
 -- the rule, case by case
 pub rule_again : (lower : Rule) (s : List ℕ) (c : Command) → c.origin ≤ 31
     → (c.serial ≡ 0 → ⊥) → c.serial ≡ serial_of s c.origin
     → once_rule lower s c ≡ (s, answer_of s c.origin)
-rule_again lower s c k n e =
-    cond-false (ltb 31 c.origin) _ _ (le-ltb 31 c.origin k)
-    ∙ (cond-false (is_old s c) _ _ (grind (arith, nat_tests)) ∙ cond-true (is_repeat s c) _ _ (eq-eqb _ _ e))
+rule_again lower s c k n e = grind (arith, nat_tests)
 
 pub rule_higher : (lower : Rule) (s : List ℕ) (c : Command) → c.origin ≤ 31 → serial_of s c.origin < c.serial
     → once_rule lower s c ≡ keeps s c (lower (below_once s) c)
-rule_higher lower s c k h =
-    cond-false (ltb 31 c.origin) _ _ (le-ltb 31 c.origin k)
-    ∙ (cond-false (is_old s c) _ _ (grind (arith, nat_tests)) ∙ cond-false (is_repeat s c) _ _ (grind (arith, nat_tests)))
+rule_higher lower s c k h = grind (arith, nat_tests)
 
 -- 32 serials, then 32 answers, then what is below
 front : (xs ys t : List ℕ) → length xs ≡ 32 → length ys ≡ 32 → length (xs ++ ys) ≡ 64
@@ -56,7 +51,8 @@ serial_read ks t o l h =
 
 below_read : (ks : List (Option Kept)) (t : List ℕ) → length ks ≡ 32 → below_once (memory ks t) ≡ t
 below_read ks t l =
-    drop_front (map kept_serial ks) (map kept_answer ks) t (length-map ks kept_serial ∙ l) (length-map ks kept_answer ∙ l)
+    drop_front (map kept_serial ks) (map kept_answer ks) t (length-map ks kept_serial ∙ l)
+    (length-map ks kept_answer ∙ l)
 
 keeps_is : (ks : List (Option Kept)) (t : List ℕ) (c : Command) (r : List ℕ × ℕ) → length ks ≡ 32 → c.origin ≤ 31
     → keeps (memory ks t) c r

@@ -1,7 +1,7 @@
 -- Below once-only each origin and serial acts at most once, and a repeated highest serial gets the same answer.
 use Rattle.std.proofs.Common.{◌≡◌, ℕ, ◌+◌, ◌<◌, ◌≤◌, Bool, true, false, cond, not, eqb, ltb, ◌⊎◌, List, [], ◌∷◌, length, get_or, take, set, replicate, sym, refl, ap, ◌∙◌, inl, inr, ⊎_elim, arith}
 use Rattle.std.proofs.lemmas.List.{length-append, length-set, length-take-le, drop_at, get_or_append_left, get_or-set_other, get_or-take}
-use Rattle.std.proofs.lemmas.Bool.{cases_Bool, cases_eq, cond-true, cond-false, eq-eqb, ne_eqb, or_cases, not_from_false, and_from, false≢true}
+use Rattle.std.proofs.lemmas.Bool.{cases_Bool, cond-true, cond-false, eq-eqb, or_cases, not_from_false, and_from, false≢true}
 use Rattle.std.proofs.lemmas.Bool.Decides.{nat_tests}
 use Rattle.command.specs.declared.Command.{Command}
 use Rattle.machine.specs.Rules.{Rule, after}
@@ -71,10 +71,7 @@ went lower s c e =
 
 first_three : (u o r : Bool) (s : List ℕ) (x y z : ℕ) (w : List ℕ × ℕ) → (u ≡ false → o ≡ false → r ≡ false → ⊥)
     → (cond u (s, x) (cond o (s, y) (cond r (s, z) w))).0 ≡ s
-first_three true o r s x y z w h = refl
-first_three false true r s x y z w h = refl
-first_three false false true s x y z w h = refl
-first_three false false false s x y z w h = absurd (h refl refl refl)
+first_three u o r s x y z w h = grind (arith, nat_tests)
 
 stayed : (lower : Rule) (s : List ℕ) (c : Command) → goes_lower s c ≡ false → Stayed lower s c
 stayed lower s c e =
@@ -132,17 +129,11 @@ record High (s : List ℕ) (d : Command) : Type 0 where
 
 high_same : (s : List ℕ) (c d : Command) → is_same d c ≡ true → c.origin ≤ 31
     → serial_of s c.origin < c.serial → High s d
-high_same s c d e k h =
-    let o : d.origin ≡ c.origin = grind (arith, nat_tests) in
-    let n : d.serial ≡ c.serial = grind (arith, nat_tests) in
-    let q = ap (serial_of s) o in
-    record { known = omega arith; higher = omega arith }
+high_same s c d e k h = grind (arith, nat_tests)
 
 -- no kept serial falls
 rises : (kept : ℕ → ℕ) (i j n m : ℕ) → kept i < n → m ≡ cond (eqb i j) n (kept j) → kept j ≤ m
-rises kept i j n m h e =
-    ⊎_elim (λ q. omega (arith, ap kept q, e ∙ cond-true (eqb i j) n (kept j) (eq-eqb i j q)))
-    (λ k. omega (arith, e ∙ cond-false (eqb i j) n (kept j) (ne_eqb i j k))) (cases_eq i j)
+rises kept i j n m h e = grind (arith, nat_tests)
 
 high_later : (lower : Rule) (s : List ℕ) (c d : Command) → Went lower s c → 64 ≤ length s
     → High (once_rule lower s c).0 d → High s d
@@ -182,7 +173,8 @@ passes_once lower s cs c w l =
     (λ e. e)
     (cases_Bool (occurs c (passed lower (once_rule lower s c).0 cs)))
 
-none_twice_acts : (lower : Rule) (s : List ℕ) (cs : List Command) → 64 ≤ length s → none_twice (passed lower s cs) ≡ true
+none_twice_acts : (lower : Rule) (s : List ℕ) (cs : List Command) → 64 ≤ length s
+    → none_twice (passed lower s cs) ≡ true
 none_twice_acts lower s [] l = refl
 none_twice_acts lower s (c ∷ cs) l =
     let tail = passed lower (once_rule lower s c).0 cs in

@@ -1,16 +1,14 @@
 -- While frozen nothing below changes.
-use Rattle.std.proofs.Common.{◌≡◌, ℕ, Bool, true, false, cond, not, List, [], ◌∷◌, sym, refl, ◌∙◌}
-use Rattle.std.proofs.lemmas.Bool.{and_parts, not-true, true≢false, false≢true}
+use Rattle.std.proofs.Common.{◌≡◌, ℕ, Bool, true, false, cond, not, List, [], ◌∷◌, refl, ◌∙◌, arith}
+use Rattle.std.proofs.lemmas.Bool.Decides.{nat_tests}
+use Rattle.std.proofs.lemmas.Bool.{and_parts, not-true}
 use Rattle.machine.specs.Rules.{Rule}
 use Rattle.layers.specs.Freezing.{is_frozen, below_freeze, freezes, thaws, freeze_rule, no_thaw, Still, FrozenBelow}
 
 -- a command that is no thaw, by whether it freezes
 stays : (f t z : Bool) (s : List ℕ) (x y : List ℕ × ℕ) (a b : ℕ) → z ≡ is_frozen s → z ≡ true → t ≡ false
     → Still s (cond f (1 ∷ below_freeze s, a) (cond t x (cond z (s, b) y))).0
-stays true t z s x y a b e h n = record { frozen = refl; below = refl }
-stays false false true s x y a b e h n = record { frozen = sym e; below = refl }
-stays false false false s x y a b e h n = absurd (false≢true h)
-stays false true z s x y a b e h n = absurd (true≢false n)
+stays f t z s x y a b e h n = grind (arith, nat_tests)
 
 pub frozen_below : (lower : Rule) → FrozenBelow lower
 frozen_below lower s [] f n = record { frozen = f; below = refl }

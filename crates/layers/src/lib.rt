@@ -2,8 +2,8 @@
 
 #![tactic(auto)]
 
-// Each layer has `over` and `lower`, and each `over` promises what its own layer is for. No code takes either layer, so a
-// trait for the two would have no caller.
+// Each layer has `over` and `lower`, and each `over` promises what its own layer is for. No code takes either layer, so
+// a trait for the two would have no caller.
 mod freezing;
 mod once;
 mod stacks;

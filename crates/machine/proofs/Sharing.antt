@@ -1,8 +1,8 @@
 -- The ledger's 512 addresses: what one host gets or gives back leaves the sum as it is.
-use Rattle.std.proofs.Common.{◌≡◌, ℕ, ◌+◌, ◌-◌, ◌<◌, ◌≤◌, Bool, true, false, cond, ◌&&◌, eqb, List, [], ◌∷◌, length, get_or, set, replicate, sum, refl, ⊎_elim, arith}
+use Rattle.std.proofs.Common.{◌≡◌, ℕ, ◌+◌, ◌-◌, ◌<◌, ◌≤◌, Bool, true, false, cond, ◌&&◌, eqb, List, [], ◌∷◌, length, get_or, set, replicate, sum, refl, arith}
 use Rattle.std.proofs.lemmas.List.{length-set, length-replicate, get_or_past, get_or-replicate}
 use Rattle.std.proofs.lemmas.List.Sums.{sum_by-set}
-use Rattle.std.proofs.lemmas.Bool.{cond_both, cases_lt}
+use Rattle.std.proofs.lemmas.Bool.{cond_both}
 use Rattle.std.proofs.lemmas.Bool.Decides.{nat_tests}
 use Rattle.command.specs.declared.Command.{Command}
 use Rattle.machine.specs.Rules.{after}
@@ -55,8 +55,7 @@ stays_sound s c h =
     (λ _. h))
 
 zeros_hold : (n k : ℕ) → holding_of (replicate n 0) k ≡ 0
-zeros_hold n k =
-    ⊎_elim (get_or-replicate n k 0 0) (λ l. get_or_past (replicate n 0) k 0 (simp length-replicate l)) (cases_lt k n)
+zeros_hold n k = grind (arith, get_or-replicate, get_or_past, length-replicate)
 
 start_sound : Sound ledger_start
 start_sound = record { long = refl; within = omega arith }
