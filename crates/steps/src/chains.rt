@@ -5,7 +5,7 @@ use journal::SPAN;
 
 /// The chain of each slot of the window, in the place of the slot, and how many slots are settled.
 // The count stands here too, so that chains are found and moved with no journal at hand.
-#[derive(Clone, Copy)]
+#[derive(Clone, Copy, PartialEq, Eq, Debug)]
 pub struct Chains {
     pub(crate) places: [Chain; SPAN],
     pub(crate) settled: u32,

@@ -35,8 +35,8 @@ impl Chains {
     {
         let next = self.get(self.settled + SPAN as u32).after(command);
         self.settled += 1;
-        // By its place: through a `Window` over chains the proof could not tell what is left, since a chain is seen as its
-        // members and not as it is stored.
+        // By its place: through a `Window` over chains the proof could not tell what is left, since a chain is seen as
+        // its members and not as it is stored.
         self.places[place_of(self.settled)] = next;
     }
 }

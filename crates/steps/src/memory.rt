@@ -9,7 +9,7 @@ use journal::{Entry, SPAN};
 use protocol::Acknowledged;
 
 /// A director follows, or it stands as a leader with those that promised its ballot and what they reported.
-#[derive(Clone, Copy)]
+#[derive(Clone, Copy, PartialEq, Eq, Debug)]
 pub enum Role {
     Following,
     Standing {
@@ -20,7 +20,7 @@ pub enum Role {
 
 /// The memory of a director. The line counts only while it stands.
 // The line has its room while the director follows too, since no call may take memory.
-#[derive(Drop)]
+#[derive(Debug, Drop)]
 pub struct Memory {
     pub number: u8,
     pub founding: Chain,
