@@ -4,14 +4,13 @@ ghost use Rattle.std.specs.Prelude.{◌≡◌, ◌<◌, ◌≤◌, Some, None, I
 ghost use Rattle.area_journal.specs.Exactness.{Exact};
 ghost use Rattle.area_journal.specs.Opening.{record_good, is_held, place_good, place_is_good, record_is_good, first_bad, fault};
 ghost use Rattle.area_journal.specs.Reading.{capacity_of, promised_of, count_of};
-ghost use Rattle.journal.specs.Windows.{in_window};
 
 use crate::OpenFault;
 use crate::layout::{
     BLANK, Place, Record, command_of, entry_of, place_at, record_at, record_of, slot_of,
 };
 use crate::parts::Parts;
-use journal::SPAN;
+use journal::{SPAN, in_window};
 
 // What opening finds: the first fault, if there is one.
 pub(crate) fn check(area: &[u8]) -> Result<(), OpenFault>
@@ -80,13 +79,6 @@ impl Parts<'_> {
             && ballot <= self.promised()
             && is_good_record(record_of(place))
     }
-}
-
-// Whether a slot is in the window after this many settled ones.
-pub(crate) fn in_window(count: u32, slot: u32) -> bool
-    ensures { result ≡ in_window count slot }
-{
-    count < slot && slot - count <= SPAN as u32
 }
 
 // Whether the bytes of a record are in order.

@@ -5,19 +5,19 @@ ghost use Rattle.area_journal.specs.Journals.{Opens, Again, bytes_of, tells, may
 ghost use Rattle.area_journal.specs.Opening.{fault};
 ghost use Rattle.area_journal.specs.Reading.{meaning_of};
 ghost use Rattle.area_journal.specs.Writing.{Does};
-ghost use Rattle.journal.specs.Meaning.{Writes};
+ghost use Rattle.journal.specs.Meaning.{taken, Writes};
 ghost use Rattle.std.specs.Prelude.{◌≡◌, None, Result};
 ghost use Rattle.area_journal.specs.declared.areas.AreaJournal.{AreaJournal};
 ghost use Rattle.area_journal.specs.declared.faults.NotOpened.{NotOpened};
 ghost use Rattle.area_journal.specs.Within.{within_of};
 
-use crate::checking::{check, in_window};
+use crate::checking::check;
 use crate::layout::{command_of, entry_of};
 use crate::parts::Parts;
 use crate::writing::make;
 use crate::{AreaJournal, NotOpened};
 use command::Command;
-use journal::{Entry, Journal, SPAN, Write};
+use journal::{Entry, Journal, SPAN, Write, in_window};
 
 impl AreaJournal {
     /// Takes an area with any content as a journal, or hands it back with the first fault: refusal 12 where it has no
@@ -63,6 +63,13 @@ impl AreaJournal {
     {
         let AreaJournal { area } = self;
         area
+    }
+
+    // Whether a write is taken.
+    fn takes(&self, write: Write) -> bool
+        ensures { result ≡ taken write (meaning_of (bytes_of self.now)) }
+    {
+        self.parts().bounds().allow(write)
     }
 
     // The bytes, read part by part.

@@ -9,7 +9,7 @@ use crate::layout::{
     COUNT_AT, PLACE_BYTES, PROMISED_AT, Place, RECORD_BYTES, RECORDS_AT, Record, SHORTEST,
     count_in, place_at, record_at,
 };
-use journal::MOST_SLOTS;
+use journal::{Bounds, MOST_SLOTS};
 use octets::Number;
 
 // The area, read part by part.
@@ -54,6 +54,19 @@ impl<'a> Parts<'a> {
         ensures { result ≡ count_of self.now.area.now }
     {
         count_in(self.area)
+    }
+
+    // The numbers that decide whether a write is taken.
+    pub(crate) fn bounds(&self) -> Bounds
+        ensures capacity { result.capacity ≡ capacity_of self.now.area.now }
+        ensures promised { result.promised ≡ promised_of self.now.area.now }
+        ensures settled { result.settled ≡ count_of self.now.area.now }
+    {
+        Bounds {
+            capacity: self.capacity(),
+            promised: self.promised(),
+            settled: self.count(),
+        }
     }
 
     // Place i.

@@ -1,44 +1,15 @@
 //! The writes of a journal, in its bytes.
 
 ghost use Rattle.std.specs.Prelude.{◌≡◌, ◌≤◌, true, length};
-ghost use Rattle.area_journal.specs.Journals.{bytes_of};
 ghost use Rattle.area_journal.specs.Reading.{shortest, meaning_of};
 ghost use Rattle.area_journal.specs.Writing.{written, NumbersFit};
 ghost use Rattle.journal.specs.Meaning.{taken};
 
-use crate::AreaJournal;
-use crate::checking::in_window;
 use crate::layout::{
     BLANK, COUNT_AT, PROMISED_AT, count_in, place_at, record_at, write_command, write_entry,
 };
-use journal::{Journal, SPAN, Write};
+use journal::{SPAN, Write};
 use octets::{Number, write_bytes};
-
-impl AreaJournal {
-    // Whether a write is taken.
-    #[tactic(auto, unfolding(journal::specs::Meaning::taken))]
-    pub(crate) fn takes(&self, write: Write) -> bool
-        ensures { result ≡ taken write (meaning_of (bytes_of self.now)) }
-    {
-        match write {
-            Write::Promise { ballot } => self.promised() <= ballot,
-            Write::Put {
-                slot,
-                ballot,
-                command,
-            } => {
-                ballot == self.promised()
-                    && 1 <= ballot
-                    && in_window(self.settled_count(), slot)
-                    && slot <= self.capacity()
-                    && command.is_well_formed()
-            }
-            Write::Settle { command } => {
-                self.settled_count() < self.capacity() && command.is_well_formed()
-            }
-        }
-    }
-}
 
 // Makes a write that is taken. A settle writes its record, then the count, and blanks the slot's place last.
 #[tactic(auto, unfolding(crate::specs::Writing::written), using(crate::proofs::Meanings::less_settle))]

@@ -1,3 +1,4 @@
 pub mod Windows
 pub mod Meaning
 pub mod Laws
+pub mod Bounding

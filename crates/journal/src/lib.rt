@@ -2,6 +2,7 @@
 
 #![tactic(auto)]
 
+mod bounds;
 mod writes;
 
 ghost use Rattle.std.specs.Prelude.{◌≡◌, List, length};
@@ -9,6 +10,7 @@ ghost use Rattle.journal.specs.Meaning.{Meaning, open_of, settled_of, Writes, Wi
 ghost use Rattle.journal.specs.declared.writes.Write.TheVariants.{Promise, Put, Settle};
 ghost use Rattle.journal.specs.declared.writes.Write.{Write};
 
+pub use bounds::{Bounds, in_window};
 use command::Command;
 pub use writes::{Entry, Write, make_write};
 

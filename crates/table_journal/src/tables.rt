@@ -5,7 +5,7 @@ ghost use Rattle.std.specs.Prelude.{◌≡◌, ◌≤◌, MatchResult, vec_items
 
 use crate::TableRefusal;
 use command::Command;
-use journal::{Entry, Journal, MOST_SLOTS, SPAN, Write};
+use journal::{Bounds, Entry, Journal, MOST_SLOTS, SPAN, Write, in_window};
 use std::alloc::Global;
 
 /// A journal in memory. All its memory is taken when it is made, so no write fails for want of memory.
@@ -27,8 +27,7 @@ pub struct TableJournal {
 }
 
 impl TableJournal {
-    ghost use Rattle.journal.specs.Meaning.{settled_count, taken};
-    ghost use Rattle.journal.specs.Windows.{in_window};
+    ghost use Rattle.journal.specs.Meaning.{taken};
     ghost use Rattle.table_journal.specs.Tables.{Made, refusal_for, table_meaning};
 
     /// A new journal with a slot for each record, of more than 60,000 records with 60,000 slots. With 0 records it is
@@ -48,35 +47,16 @@ impl TableJournal {
         })
     }
 
-    // Whether a slot has an open entry.
-    fn is_open(&self, slot: u32) -> bool
-        ensures { result ≡ in_window (settled_count (table_meaning self.now)) slot }
-    {
-        let count = self.settled.len() as u32;
-        count < slot && slot <= count + SPAN as u32
-    }
-
     // Whether a write is taken.
-    #[tactic(auto, unfolding(journal::specs::Meaning::taken))]
     fn takes(&self, write: Write) -> bool
         ensures { result ≡ taken write (table_meaning self.now) }
     {
-        match write {
-            Write::Promise { ballot } => self.promised <= ballot,
-            Write::Put {
-                slot,
-                ballot,
-                command,
-            } => {
-                ballot == self.promised
-                    && ballot != 0
-                    && self.is_open(slot)
-                    && slot <= self.capacity
-                    && command.is_well_formed()
-            },
-            Write::Settle { command } => (self.settled.len() as u32) < self.capacity
-                && command.is_well_formed(),
-        }
+        let bounds = Bounds {
+            capacity: self.capacity,
+            promised: self.promised,
+            settled: self.settled.len() as u32,
+        };
+        bounds.allow(write)
     }
 }
 
@@ -109,7 +89,7 @@ impl Journal for TableJournal {
     }
 
     fn open(&self, slot: u32) -> Entry {
-        if self.is_open(slot) {
+        if in_window(self.settled_count(), slot) {
             self.places[slot as usize % SPAN]
         } else {
             Entry::BLANK
