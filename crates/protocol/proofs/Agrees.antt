@@ -145,7 +145,12 @@ module _ (k : Cluster) (es : List Event) (v w : World) (i : Inv k es w)
             ∙ sym (i.machine e there);
         submitted = λ d c h.
             let s : Settled (pasts w d) (h.0 + 1) c =
-            record { index = h.0; slot = refl; within = h.1; is = get_or_default (settled_list w d) h.0 noop c h.1 ∙ h.2 } in
+            record {
+              index = h.0;
+              slot = refl;
+              within = h.1;
+              is = get_or_default (settled_list w d) h.0 noop c h.1 ∙ h.2;
+            } in
             let chosen = i.core.chosen d (h.0 + 1) c s in
             let vote = by_some _ (λ e. Voted (pasts w e) (h.0 + 1) chosen.ballot c) chosen.by in
             i.core.known vote.0 (h.0 + 1) chosen.ballot c vote.1;

@@ -95,8 +95,8 @@ KnowsRole S R d x following = Unit {0}
 KnowsRole S R d x (standing q line reports) = Leader S R d x q line reports
 
 -- a leader with another line, in which only such commands wait
-pub leader_waits : (S : Command → Type 0) (R : ℕ → Past) (d : ℕ) (x : Past) (q : DirectorSet) (line lines : List Command)
-    (reports : List Entry) → Leader S R d x q line reports
+pub leader_waits : (S : Command → Type 0) (R : ℕ → Past) (d : ℕ) (x : Past) (q : DirectorSet)
+    (line lines : List Command) (reports : List Entry) → Leader S R d x q line reports
     → ((c : Command) → Contains lines c → S c × (well_formed c ≡ true)) → Leader S R d x q lines reports
 leader_waits S R d x q line lines reports k waiting =
     record {

@@ -53,8 +53,8 @@ pub prepares_facts : (R : ℕ → Past) (named : ℕ → Bool) (d : Desk) → Al
 unfolding prepares
 prepares_facts R named d =
     All-map (Fact R) (λ e. prepare (me d) e (promised d) (count_of d + 1)) (filter named (range_with_len 0 32))
-    (All-from_get_or (λ e. Fact R (prepare (me d) e (promised d) (count_of d + 1))) (filter named (range_with_len 0 32)) 0
-    (λ i h. tt))
+    (All-from_get_or (λ e. Fact R (prepare (me d) e (promised d) (count_of d + 1)))
+    (filter named (range_with_len 0 32)) 0 (λ i h. tt))
   where
     count_of : Desk → ℕ
     count_of d = length d.journal.settled
