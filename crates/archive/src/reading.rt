@@ -2,7 +2,8 @@
 
 ghost use Rattle.std.specs.Prelude.{◌≡◌, ℕ, List, length, None};
 ghost use Rattle.archive.specs.Layout.{Archive};
-ghost use Rattle.archive.specs.Reading.{refusal_number, offset_of, fault, scanned, scan_all, counted, members_of, start_of, count_at, body_of, entry_at, entry_of};
+ghost use Rattle.archive.specs.Reading.{refusal_number, offset_of, fault, scanned, scan_all, counted};
+ghost use Rattle.archive.specs.Reading.{members_of, start_of, count_at, body_of, entry_at, entry_of};
 ghost use Rattle.command.specs.declared.Command.{Command};
 
 use crate::{COUNT_BYTES, Entries, Entry, HEADER_BYTES, MARK, is_chain};

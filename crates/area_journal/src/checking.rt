@@ -2,7 +2,8 @@
 
 ghost use Rattle.std.specs.Prelude.{◌≡◌, ◌<◌, ◌≤◌, Some, None, IfSome, MatchResult};
 ghost use Rattle.area_journal.specs.Exactness.{Exact};
-ghost use Rattle.area_journal.specs.Opening.{record_good, is_held, place_good, place_is_good, record_is_good, first_bad, fault};
+ghost use Rattle.area_journal.specs.Opening.{record_good, is_held, place_good, place_is_good, record_is_good};
+ghost use Rattle.area_journal.specs.Opening.{first_bad, fault};
 ghost use Rattle.area_journal.specs.Reading.{capacity_of, promised_of, count_of};
 
 use crate::OpenFault;

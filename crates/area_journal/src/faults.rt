@@ -16,6 +16,7 @@ pub enum OpenFault {
 
 impl OpenFault {
     /// The number of this refusal.
+    // A match and no discriminants: a variant with a value can have none.
     pub fn number(self) -> u8
         ensures { result ≡ refusal_number self }
     {

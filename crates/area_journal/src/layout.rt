@@ -3,7 +3,8 @@
 
 ghost use Rattle.std.specs.Prelude.{◌≡◌, ◌+◌, ◌<◌, ◌≤◌, length};
 ghost use Rattle.octets.specs.Areas.{part, over};
-ghost use Rattle.area_journal.specs.Layout.{record_bytes, place_at, record_at, command_of, slot_of, entry_of, command_bytes, entry_bytes};
+ghost use Rattle.area_journal.specs.Layout.{record_bytes, place_at, record_at, command_of, slot_of, entry_of};
+ghost use Rattle.area_journal.specs.Layout.{command_bytes, entry_bytes};
 ghost use Rattle.area_journal.specs.Reading.{shortest, count_of};
 
 use command::{Command, SERIAL_BYTES, Serial};

@@ -9,6 +9,7 @@ use machine::{Denial, Machine};
 /// A machine that can be frozen: till it is thawed no command reaches the machine below.
 #[derive(PartialEq, Eq, Debug, Drop)]
 pub struct Freeze<M> {
+    // A bool beside the machine and no Option of it: the machine below counts in both states.
     frozen: bool,
     lower: M,
 }

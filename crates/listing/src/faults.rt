@@ -23,6 +23,7 @@ pub enum Fault {
 
 impl Fault {
     /// The refusal's number, where this is a refusal.
+    // A match and no discriminants: a variant with a value can have none.
     pub fn number(self) -> Option<u8>
         ensures { result ≡ fault_number self }
     {

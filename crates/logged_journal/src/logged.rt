@@ -48,6 +48,7 @@ impl<J: Journal> LoggedJournal<J> {
     }
 
     /// The journal below.
+    // As in the layers over machines: no code takes either kind of layer, so a trait for both would have no caller.
     pub fn lower(&self) -> &J
         ensures { result.now ≡ self.now.lower }
     {

@@ -52,6 +52,7 @@ impl Ledger {
     }
 
     /// How many addresses a host holds; 0 for a number above 63, which is no host's.
+    // As `Pool::weight`, by one line: what the two numbers mean differs, and no code here asks for either.
     pub fn holding(&self, host: u8) -> u16
         ensures { result ≡ holding_of self.now host }
     {

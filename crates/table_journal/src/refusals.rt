@@ -29,6 +29,8 @@ impl TableRefusal {
     }
 }
 
+// Written out and not derived: clauses name the refusal that a `?` makes.
+
 impl From<AllocError> for TableRefusal {
     ghost from_gives = { λ _ e. e ≡ Memory };
 
