@@ -83,8 +83,8 @@ impl Parts<'_> {
 }
 
 // Whether the bytes of a record are in order.
-fn is_good_record(record: &Record) -> bool
-    ensures { result ≡ record_good record.now }
+fn is_good_record(bytes: &Record) -> bool
+    ensures { result ≡ record_good bytes.now }
 {
-    record[1] == 0 && command_of(record).is_well_formed()
+    bytes[1] == 0 && command_of(bytes).is_well_formed()
 }

@@ -64,15 +64,15 @@ pub(crate) fn count_in(area: &[u8]) -> u32
 }
 
 // The command that a record tells.
-pub(crate) fn command_of(record: &Record) -> Command
-    ensures { result ≡ command_of record.now }
+pub(crate) fn command_of(bytes: &Record) -> Command
+    ensures { result ≡ command_of bytes.now }
 {
     Command {
-        verb: record[0],
-        origin: u16::read_le(record, 2),
-        serial: Serial::read_le(record, 4),
-        a: u16::read_le(record, 4 + SERIAL_BYTES),
-        b: u16::read_le(record, 6 + SERIAL_BYTES),
+        verb: bytes[0],
+        origin: u16::read_le(bytes, 2),
+        serial: Serial::read_le(bytes, 4),
+        a: u16::read_le(bytes, 4 + SERIAL_BYTES),
+        b: u16::read_le(bytes, 6 + SERIAL_BYTES),
     }
 }
 
