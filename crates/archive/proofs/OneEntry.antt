@@ -1,7 +1,7 @@
 -- One entry: what is written of a command is read again as that command, and what is read is written again the same.
 use Rattle.std.proofs.Common.{◌≡◌, ℕ, ◌+◌, ◌<◌, ◌≤◌, true, cond, leb, List, ◌∷◌, ◌++◌, length, get_or, take, Some, None, Option, sym, refl, ap, ◌∙◌, arith}
 use Rattle.std.proofs.lemmas.Bool.Decides.{nat_tests}
-use Rattle.std.proofs.ByRecursion.{All-get_or}
+use Rattle.std.proofs.lemmas.List.Elements.{All-get_or}
 use Rattle.octets.specs.Areas.{part}
 use Rattle.octets.specs.Numbers.{le, num}
 use Rattle.octets.proofs.Numbers.{Bytes, num_le}

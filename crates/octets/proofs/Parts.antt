@@ -1,6 +1,6 @@
 -- Parts of an area: what a write leaves in them, and the numbers that are read from them.
 use Rattle.std.proofs.Common.{◌≡◌, ℕ, ◌+◌, ◌^◌, ◌<◌, ◌≤◌, List, ◌++◌, length, get_or, take, drop, sym, ap, ◌∙◌, ap₂, arith, w8, Fits}
-use Rattle.std.proofs.ByRecursion.{All-from_get_or, All-take, All-drop}
+use Rattle.std.proofs.lemmas.List.Elements.{All-from_get_or, All-take, All-drop}
 use Rattle.std.proofs.lemmas.List.{length-take-le, length-drop, take_at, take-take, drop_at, drop-drop, drop-take, take-append-drop}
 use Rattle.octets.specs.Areas.{part, over}
 use Rattle.octets.specs.Numbers.{le, num}
