@@ -5,34 +5,18 @@ ghost use Rattle.archive.specs.Lists.{Wrote, space_for, addressable, EnoughSpace
 
 use crate::{COUNT_BYTES, HEADER_BYTES, OpenArchive, Refusal, SealedArchive};
 use command::{Command, SERIAL_BYTES};
-use std::error::Error;
-use std::fmt;
+use thiserror::Error;
 
 /// Why a list was not written: the call that was refused, and its refusal.
-#[derive(Clone, Copy, PartialEq, Eq, Hash, Debug)]
+#[derive(Clone, Copy, PartialEq, Eq, Hash, Debug, Error)]
 pub enum ListRefusal {
     /// The beginning: the chain is not valid, or there is no space for it.
+    #[error("{0}")]
     Begin(Refusal),
     /// An entry, counted from 1.
+    #[error("entry {number}: {refusal}")]
     Entry { number: usize, refusal: Refusal },
 }
-
-impl fmt::Display for ListRefusal {
-    fn fmt<W: fmt::Write>(&self, f: &mut fmt::Formatter<W>) -> fmt::Result {
-        match self {
-            ListRefusal::Begin(refusal) => write!(f, "refused {}: {refusal}", refusal.number()),
-            ListRefusal::Entry { number, refusal } => {
-                write!(
-                    f,
-                    "refused {} at entry {number}: {refusal}",
-                    refusal.number()
-                )
-            }
-        }
-    }
-}
-
-impl Error for ListRefusal {}
 
 /// How many bytes an area needs to have space for the archive of so many members and any so many commands, if that is
 /// a number of bytes that an area can have.

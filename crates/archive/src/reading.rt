@@ -8,8 +8,7 @@ ghost use Rattle.command.specs.declared.Command.{Command};
 
 use crate::{COUNT_BYTES, Entries, Entry, HEADER_BYTES, MARK, is_chain};
 use octets::Number;
-use std::error::Error;
-use std::fmt;
+use thiserror::Error;
 
 // The length of the shortest file: mark, a chain of one member, no entries, and the count.
 const SHORTEST: usize = 8;
@@ -24,11 +23,15 @@ pub struct Reader<'a> {
 }
 
 /// Why a file was refused (refusal 15): the first of its parts that is broken.
-#[derive(Clone, Copy, PartialEq, Eq, Hash, Debug)]
+#[derive(Clone, Copy, PartialEq, Eq, Hash, Debug, Error)]
 pub enum Broken {
+    #[error("refused 15 at 0: the file does not begin as an archive")]
     Mark,
+    #[error("refused 15 at 4: the founding chain is not valid")]
     Chain,
+    #[error("refused 15 at {offset}: the entry that begins here is broken")]
     Entry { offset: usize },
+    #[error("refused 15 at {offset}: the count is not that of the entries")]
     Count { offset: usize },
 }
 
@@ -51,20 +54,6 @@ impl Broken {
         }
     }
 }
-
-impl fmt::Display for Broken {
-    fn fmt<W: fmt::Write>(&self, f: &mut fmt::Formatter<W>) -> fmt::Result {
-        let part = match self {
-            Broken::Mark => "the file does not begin as an archive",
-            Broken::Chain => "the founding chain is not valid",
-            Broken::Entry { .. } => "the entry that begins here is broken",
-            Broken::Count { .. } => "the count is not that of the entries",
-        };
-        write!(f, "refused {} at {}: {part}", self.number(), self.offset())
-    }
-}
-
-impl Error for Broken {}
 
 impl<'a> Reader<'a> {
     ghost use Rattle.archive.specs.Readers.{shown, Opens, Exact};

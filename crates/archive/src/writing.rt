@@ -9,8 +9,7 @@ ghost use Rattle.command.specs.Commands.{well_formed, Sized};
 use crate::{COUNT_BYTES, HEADER_BYTES, MARK, is_chain};
 use command::{Command, SERIAL_BYTES, UnknownVerb, Verb};
 use octets::{Number, write_bytes};
-use std::error::Error;
-use std::fmt;
+use thiserror::Error;
 
 /// An archive that is being written: where its next part goes, and how many entries it has. It tells no length,
 /// and it cannot be let go: seal or strike ends it.
@@ -27,11 +26,15 @@ pub struct SealedArchive {
 }
 
 /// Why the writer refused a call; nothing was written then.
-#[derive(Clone, Copy, PartialEq, Eq, Hash, Debug)]
+#[derive(Clone, Copy, PartialEq, Eq, Hash, Debug, Error)]
 pub enum Refusal {
+    #[error("the command is not well formed")]
     IllFormed = 5,
+    #[error("a chain is 1 to 7 different directors from 0 to 31")]
     InvalidChain = 11,
+    #[error("the area has no space for it")]
     NoSpace = 14,
+    #[error("an archive holds at most 65,535 entries")]
     Full = 16,
 }
 
@@ -43,19 +46,6 @@ impl Refusal {
         self as u8
     }
 }
-
-impl fmt::Display for Refusal {
-    fn fmt<W: fmt::Write>(&self, f: &mut fmt::Formatter<W>) -> fmt::Result {
-        f.write_str(match self {
-            Refusal::IllFormed => "the command is not well formed",
-            Refusal::InvalidChain => "a chain is 1 to 7 different directors from 0 to 31",
-            Refusal::NoSpace => "the area has no space for it",
-            Refusal::Full => "an archive holds at most 65,535 entries",
-        })
-    }
-}
-
-impl Error for Refusal {}
 
 impl OpenArchive {
     /// Writes mark and founding chain at the front of the area. Refusals 11 (no valid chain) and 14 (no space).

@@ -2,12 +2,12 @@
 //! members.
 
 use crate::DirectorSet;
-use std::error::Error;
-use std::fmt;
 use std::marker::Model;
+use thiserror::Error;
 
 /// A chain of directors in its order, and the set of all who were ever members of it.
-// Seven places and a count, and no Vec: a chain is copied in every call, and no call may need memory.
+// Seven places and a count, and no vector, of fixed room or not: a chain is copied in every call, and no call may need
+// memory.
 #[derive(Clone, Copy, PartialEq, Eq, Debug)]
 pub struct Chain {
     pub(crate) places: [u8; 7],
@@ -32,13 +32,6 @@ impl Model for Chain {
 }
 
 /// Why no chain was made (refusal 11): the list has none or more than 7, a number above 31, or one twice.
-#[derive(Clone, Copy, PartialEq, Eq, Debug)]
+#[derive(Clone, Copy, PartialEq, Eq, Hash, Debug, Error)]
+#[error("a chain is 1 to 7 different directors from 0 to 31")]
 pub struct InvalidChain;
-
-impl fmt::Display for InvalidChain {
-    fn fmt<W: fmt::Write>(&self, f: &mut fmt::Formatter<W>) -> fmt::Result {
-        f.write_str("a chain is 1 to 7 different directors from 0 to 31")
-    }
-}
-
-impl Error for InvalidChain {}

@@ -2,8 +2,7 @@
 
 ghost use Rattle.command.specs.Verbs.{TellsVerb};
 
-use std::error::Error;
-use std::fmt;
+use thiserror::Error;
 
 /// What kind of change a verb's number stands for: 0, 1, 2, and 16 to 255 for those of the machine.
 #[derive(Clone, Copy, PartialEq, Eq, Debug)]
@@ -15,7 +14,8 @@ pub enum Verb {
 }
 
 /// A number that stands for no kind of change: 3 to 15.
-#[derive(Clone, Copy, PartialEq, Eq, Debug)]
+#[derive(Clone, Copy, PartialEq, Eq, Hash, Debug, Error)]
+#[error("no kind of change has the verb {0}")]
 pub struct UnknownVerb(pub u8);
 
 impl TryFrom<u8> for Verb {
@@ -33,11 +33,3 @@ impl TryFrom<u8> for Verb {
         }
     }
 }
-
-impl fmt::Display for UnknownVerb {
-    fn fmt<W: fmt::Write>(&self, f: &mut fmt::Formatter<W>) -> fmt::Result {
-        write!(f, "no kind of change has the verb {}", self.0)
-    }
-}
-
-impl Error for UnknownVerb {}

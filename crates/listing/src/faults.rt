@@ -9,7 +9,7 @@ use std::error::Error;
 use std::fmt;
 
 /// Why a text is no list, or was not read or written; lines count from 1.
-#[derive(Clone, Copy, PartialEq, Eq, Debug)]
+#[derive(Clone, Copy, PartialEq, Eq, Hash, Debug)]
 pub enum Fault {
     /// The first line can be read, and is no chain of 1 to 7 different directors.
     InvalidChain,

@@ -9,32 +9,27 @@ ghost use Rattle.octets.specs.Numbers.{le, num};
 
 /// A number that formats store in a fixed count of bytes, the lowest first.
 pub trait Number: Copy {
-    ghost BYTES: { ℕ };
+    ghost bytes: { ℕ };
 
     ghost value: { Self → ℕ };
 
-    /// How many bytes it takes.
-    const BYTES: usize;
-
     /// Writes it from offset `at` on. Building block: it must lie within the area.
     fn write_le(self, area: &mut [u8], at: usize)
-        requires { at + BYTES ≤ length area.old }
-        ensures { area.new ≡ over area.old at (le BYTES (value self)) };
+        requires { at + bytes ≤ length area.old }
+        ensures { area.new ≡ over area.old at (le bytes (value self)) };
 
     /// The number stored from offset `at` on. Building block: it must lie within the area.
     fn read_le(area: &[u8], at: usize) -> Self
-        requires { at + BYTES ≤ length area.now }
-        ensures { value result ≡ num (part at BYTES area.now) };
+        requires { at + bytes ≤ length area.now }
+        ensures { value result ≡ num (part at bytes area.now) };
 }
 
-// One impl for each type: the bytes come from the type's own `to_le_bytes` and `from_le_bytes`, which no trait has.
+// Three short impls: a trait over the types' own `to_le_bytes`, as num_traits has one, would put its arrays into each clause.
 
 impl Number for u8 {
-    ghost BYTES = { 1 };
+    ghost bytes = { 1 };
 
     ghost value = { λ n. n };
-
-    const BYTES: usize = 1;
 
     fn write_le(self, area: &mut [u8], at: usize) {
         area[at] = self;
@@ -46,11 +41,9 @@ impl Number for u8 {
 }
 
 impl Number for u16 {
-    ghost BYTES = { 2 };
+    ghost bytes = { 2 };
 
     ghost value = { λ n. n };
-
-    const BYTES: usize = 2;
 
     fn write_le(self, area: &mut [u8], at: usize) {
         let two = self.to_le_bytes();
@@ -63,11 +56,9 @@ impl Number for u16 {
 }
 
 impl Number for u32 {
-    ghost BYTES = { 4 };
+    ghost bytes = { 4 };
 
     ghost value = { λ n. n };
-
-    const BYTES: usize = 4;
 
     fn write_le(self, area: &mut [u8], at: usize) {
         let four = self.to_le_bytes();

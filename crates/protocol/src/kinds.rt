@@ -3,8 +3,8 @@
 ghost use Rattle.protocol.specs.Messages.{kind_number, Decodes};
 ghost use Rattle.std.specs.Prelude.{◌≡◌};
 
-use std::error::Error;
 use std::fmt;
+use thiserror::Error;
 
 /// What a message says: PREPARE asks for a promise, PROMISE gives it, ACCEPT passes a command along the chain, ACKED
 /// brings the acknowledgements to the ballot's owner, LEARN tells a settled command, FETCH asks for some.
@@ -19,7 +19,8 @@ pub enum Kind {
 }
 
 /// A number that stands for no kind: 0, or one above 6.
-#[derive(Clone, Copy, PartialEq, Eq, Hash, Debug)]
+#[derive(Clone, Copy, PartialEq, Eq, Hash, Debug, Error)]
+#[error("no kind of message has number {0}")]
 pub struct UnknownKind(pub u8);
 
 impl Kind {
@@ -61,14 +62,6 @@ impl fmt::Display for Kind {
         })
     }
 }
-
-impl fmt::Display for UnknownKind {
-    fn fmt<W: fmt::Write>(&self, f: &mut fmt::Formatter<W>) -> fmt::Result {
-        write!(f, "no kind of message has number {}", self.0)
-    }
-}
-
-impl Error for UnknownKind {}
 
 #[cfg(test)]
 mod tests {

@@ -3,33 +3,43 @@
 ghost use Rattle.protocol.specs.Refusals.{refusal_number};
 ghost use Rattle.std.specs.Prelude.{◌≡◌};
 
-use std::error::Error;
-use std::fmt;
+use thiserror::Error;
 
 /// Why a director refuses a call. A refused call changes nothing.
-#[derive(Clone, Copy, PartialEq, Eq, Hash, Debug)]
+#[derive(Clone, Copy, PartialEq, Eq, Hash, Debug, Error)]
 pub enum Refusal {
     /// The message table has fewer than 24 places.
+    #[error("the message table has fewer than 24 places")]
     ShortTable = 1,
     /// The message is addressed to another director.
+    #[error("the message is addressed to another director")]
     NotAddressee = 2,
     /// The message is malformed, or the peer is no other director.
+    #[error("the message is malformed, or the peer is no other director")]
     Malformed = 3,
     /// The message's ballot or slot does not fit what the director holds now.
+    #[error("the ballot or slot does not fit what the director holds now")]
     Stale = 4,
     /// The command is not well formed.
+    #[error("the command is not well formed")]
     IllFormed = 5,
     /// The director does not stand.
+    #[error("the director does not stand")]
     NotStanding = 6,
     /// The line holds 16 commands.
+    #[error("the line holds 16 commands")]
     LineFull = 7,
     /// Every slot of the journal is settled.
+    #[error("every slot of the journal is settled")]
     JournalFull = 8,
     /// The director is no member of the chain for the next slot.
+    #[error("the director is no member of the chain for the next slot")]
     NotMember = 9,
     /// No ballot of this director is left above the promised one.
+    #[error("no ballot of this director is left above the promised one")]
     NoBallot = 10,
     /// The number is above 31, or the founding chain is not valid.
+    #[error("the number is above 31, or the founding chain is not valid")]
     InvalidDirector = 11,
 }
 
@@ -41,27 +51,6 @@ impl Refusal {
         self as u8
     }
 }
-
-impl fmt::Display for Refusal {
-    fn fmt<W: fmt::Write>(&self, f: &mut fmt::Formatter<W>) -> fmt::Result {
-        f.write_str(match self {
-            Refusal::ShortTable => "the message table has fewer than 24 places",
-            Refusal::NotAddressee => "the message is addressed to another director",
-            Refusal::Malformed => "the message is malformed, or the peer is no other director",
-            Refusal::Stale => "the ballot or slot does not fit what the director holds now",
-            Refusal::IllFormed => "the command is not well formed",
-            Refusal::NotStanding => "the director does not stand",
-            Refusal::LineFull => "the line holds 16 commands",
-            Refusal::JournalFull => "every slot of the journal is settled",
-            Refusal::NotMember => "the director is no member of the chain for the next slot",
-            Refusal::NoBallot => "no ballot of this director is left above the promised one",
-            Refusal::InvalidDirector =>
-                "the number is above 31, or the founding chain is not valid",
-        })
-    }
-}
-
-impl Error for Refusal {}
 
 #[cfg(test)]
 mod tests {

@@ -5,15 +5,16 @@ ghost use Rattle.table_journal.specs.Refusals.{refusal_number};
 ghost use Rattle.table_journal.specs.declared.refusals.TableRefusal.TheVariants.{Memory};
 
 use std::alloc::AllocError;
-use std::error::Error;
-use std::fmt;
+use thiserror::Error;
 
 /// Why no journal was made.
-#[derive(Clone, Copy, PartialEq, Eq, Hash, Debug)]
+#[derive(Clone, Copy, PartialEq, Eq, Hash, Debug, Error)]
 pub enum TableRefusal {
     /// A journal of 0 records was asked for (refusal 12).
+    #[error("a journal has at least one record")]
     NoRecord,
     /// There was not memory enough for the records.
+    #[error("no memory is left")]
     Memory,
 }
 
@@ -34,18 +35,7 @@ impl TableRefusal {
 impl From<AllocError> for TableRefusal {
     ghost from_gives = { λ _ e. e ≡ Memory };
 
-    fn from(_error: AllocError) -> Self {
-        Self::Memory
+    fn from(_e: AllocError) -> TableRefusal {
+        TableRefusal::Memory
     }
 }
-
-impl fmt::Display for TableRefusal {
-    fn fmt<W: fmt::Write>(&self, f: &mut fmt::Formatter<W>) -> fmt::Result {
-        f.write_str(match self {
-            TableRefusal::NoRecord => "a journal has at least one record",
-            TableRefusal::Memory => "out of memory",
-        })
-    }
-}
-
-impl Error for TableRefusal {}

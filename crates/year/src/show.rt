@@ -60,9 +60,7 @@ fn write_entries<M: Machine>(
     reader: &Reader,
     machine: &mut M,
 ) -> Result<(), Fault> {
-    let Ok(mut chain) = Chain::new(reader.members()) else {
-        return Ok(());
-    };
+    let mut chain = Chain::new(reader.members())?;
     for (number, entry) in (1..=reader.count()).zip(reader.entries()) {
         if let Some(command) = entry.command() {
             write_line(text, number, &entry, &command)?;

@@ -6,11 +6,11 @@ ghost use Rattle.std.specs.Prelude.{◌≡◌};
 
 use archive::{Broken, ListRefusal};
 use std::alloc::AllocError;
-use std::error::Error;
 use std::fmt;
+use thiserror::Error;
 
 /// Why a list was not sealed.
-#[derive(Clone, Copy, PartialEq, Eq, Debug)]
+#[derive(Clone, Copy, PartialEq, Eq, Hash, Debug)]
 pub enum SealFault {
     /// The text is no list.
     List(listing::Fault),
@@ -21,13 +21,17 @@ pub enum SealFault {
 }
 
 /// Why a file was not read.
-#[derive(Clone, Copy, PartialEq, Eq, Debug)]
+#[derive(Clone, Copy, PartialEq, Eq, Hash, Debug, Error)]
 pub enum ReadFault {
     /// The file is no archive.
+    #[error("{0}")]
     File(Broken),
     /// The file is an archive, and no memory was left for its text.
+    #[error("no memory is left")]
     Memory,
 }
+
+// By hand: the line of an entry is worked out from its number.
 
 impl fmt::Display for SealFault {
     fn fmt<W: fmt::Write>(&self, f: &mut fmt::Formatter<W>) -> fmt::Result {
@@ -39,23 +43,12 @@ impl fmt::Display for SealFault {
                 write!(f, "refused {} at line {line}: {refusal}", refusal.number())
             }
             SealFault::Entry(refused) => write!(f, "{refused}"),
-            SealFault::Memory => write!(f, "no memory is left"),
+            SealFault::Memory => f.write_str("no memory is left"),
         }
     }
 }
 
-impl Error for SealFault {}
-
-impl fmt::Display for ReadFault {
-    fn fmt<W: fmt::Write>(&self, f: &mut fmt::Formatter<W>) -> fmt::Result {
-        match self {
-            ReadFault::File(broken) => write!(f, "{broken}"),
-            ReadFault::Memory => write!(f, "no memory is left"),
-        }
-    }
-}
-
-impl Error for ReadFault {}
+impl std::error::Error for SealFault {}
 
 // Written out and not derived: clauses name the fault that a `?` makes.
 
