@@ -11,9 +11,11 @@ use Rattle.journal.specs.Meaning.{taken, after, step, settled_count}
 use Rattle.std.proofs.lemmas.Bool.Decides.{nat_tests}
 use Rattle.octets.specs.Areas.{over}
 use Rattle.octets.specs.Numbers.{le}
+use Rattle.journal.specs.declared.bounds.Bounds.{Bounds}
+use Rattle.journal.specs.Bounding.{Decides}
 use Rattle.journal.specs.Windows.{place_of}
 use Rattle.area_journal.specs.Layout.{command_of, record_bytes, records_at, record_at, place_at, count_at, command_bytes, blank_bytes}
-use Rattle.area_journal.specs.Reading.{capacity_of, count_of, record_in, command_in, meaning_of}
+use Rattle.area_journal.specs.Reading.{capacity_of, promised_of, count_of, record_in, command_in, meaning_of}
 use Rattle.area_journal.specs.Opening.{is_sound}
 use Rattle.area_journal.specs.Writing.{written, Does}
 use Rattle.area_journal.proofs.Checks.{Sound, sound_from}
@@ -105,3 +107,11 @@ does_not w area r t n s =
       after = sym (cond-false (taken w (meaning_of area)) (after w (meaning_of area)) (meaning_of area) h);
       sound = s;
     }
+
+-- the numbers of an area decide whether its journal takes a write
+pub decided : (b : Bounds) (w : Write) (r : Bool) (area : List ℕ) → Decides b w r → b.capacity ≡ capacity_of area
+    → b.promised ≡ promised_of area
+    → b.settled ≡ count_of area
+    → r ≡ taken w (meaning_of area)
+unfolding meaning_of
+decided b w r area d c p n = d.tells (meaning_of area) c p (n ∙ sym (count_is area))

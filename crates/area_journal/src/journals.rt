@@ -66,6 +66,7 @@ impl AreaJournal {
     }
 
     // Whether a write is taken.
+    #[tactic(auto, using(crate::proofs::Meanings::decided))]
     fn takes(&self, write: Write) -> bool
         ensures { result ≡ taken write (meaning_of (bytes_of self.now)) }
     {

@@ -36,6 +36,6 @@ impl From<AllocError> for TableRefusal {
     ghost from_gives = { λ _ e. e ≡ Memory };
 
     fn from(_e: AllocError) -> TableRefusal {
-        TableRefusal::Memory
+        Self::Memory
     }
 }
