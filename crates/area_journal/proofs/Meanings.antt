@@ -67,17 +67,18 @@ unfolding taken meaning_of
 less_settle area c t = grind (arith, nat_tests, count_is area)
 
 -- the three parts of a settle, written one after another
-pub written_settle : (w : Write) (area once twice exit : List ℕ) (p i k : ℕ) (d : Command) → w ≡ Settle d
+pub written_settle : (w : Write) (area once twice exit : List ℕ) (p i q k : ℕ) (d : Command) → w ≡ Settle d
     → p ≡ count_of area
     → i ≡ record_at p
-    → k ≡ place_at (place_of (p + 1))
+    → q ≡ place_of (p + 1)
+    → k ≡ place_at q
     → once ≡ over area i (command_bytes d)
     → twice ≡ over once count_at (le 4 (p + 1))
     → exit ≡ over twice k blank_bytes
     → exit ≡ written w area
 unfolding written
-written_settle w area once twice exit p i k d is count at place e f g =
-    simp (is, g, f, e, place, at, count)
+written_settle w area once twice exit p i q k d is count at slot place e f g =
+    simp (is, g, f, e, place, slot, at, count)
 
 -- a write that is taken, and one that is not
 pub does : (w : Write) (area exit : List ℕ) (r : Bool) → r ≡ taken w (meaning_of area) → r ≡ true

@@ -11,7 +11,7 @@ use crate::layout::{
     BLANK, Place, Record, command_of, entry_of, place_at, record_at, record_of, slot_of,
 };
 use crate::parts::Parts;
-use journal::{SPAN, in_window};
+use journal::{SPAN, in_window, place_of};
 
 // What opening finds: the first fault, if there is one.
 pub(crate) fn check(area: &[u8]) -> Result<(), OpenFault>
@@ -73,7 +73,7 @@ impl Parts<'_> {
     {
         let slot = slot_of(place);
         let ballot = entry_of(place).ballot;
-        slot as usize % SPAN == i
+        place_of(slot) == i
             && in_window(self.count(), slot)
             && slot <= self.capacity()
             && 1 <= ballot

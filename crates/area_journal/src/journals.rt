@@ -17,7 +17,7 @@ use crate::parts::Parts;
 use crate::writing::make;
 use crate::{AreaJournal, NotOpened};
 use command::Command;
-use journal::{Entry, Journal, SPAN, Write, in_window};
+use journal::{Entry, Journal, Write, in_window, place_of};
 
 impl AreaJournal {
     /// Takes an area with any content as a journal, or hands it back with the first fault: refusal 12 where it has no
@@ -116,7 +116,7 @@ impl Journal for AreaJournal {
     fn open(&self, slot: u32) -> Entry {
         let parts = self.parts();
         if in_window(parts.count(), slot) {
-            entry_of(parts.place(slot as usize % SPAN))
+            entry_of(parts.place(place_of(slot)))
         } else {
             Entry::BLANK
         }

@@ -8,7 +8,7 @@ ghost use Rattle.journal.specs.Meaning.{taken};
 use crate::layout::{
     BLANK, COUNT_AT, PROMISED_AT, count_in, place_at, record_at, write_command, write_entry,
 };
-use journal::{SPAN, Write};
+use journal::{Write, place_of};
 use octets::{Number, write_bytes};
 
 // Makes a write that is taken. A settle writes its record, then the count, and blanks the slot's place last.
@@ -26,12 +26,12 @@ pub(crate) fn make(area: &mut [u8], write: Write)
             ballot,
             command,
         } => {
-            let at = place_at(slot as usize % SPAN);
+            let at = place_at(place_of(slot));
             write_entry(area, at, slot, ballot, &command);
         }
         Write::Settle { command } => {
             let count = count_in(area);
-            let place = place_at((count as usize + 1) % SPAN);
+            let place = place_at(place_of(count + 1));
             write_command(area, record_at(count as usize), &command);
             (count + 1).write_le(area, COUNT_AT);
             write_bytes(area, place, &BLANK);

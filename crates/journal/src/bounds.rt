@@ -1,7 +1,7 @@
 //! What decides whether a write is taken.
 
-ghost use Rattle.journal.specs.Windows.{in_window};
-ghost use Rattle.std.specs.Prelude.{◌≡◌};
+ghost use Rattle.journal.specs.Windows.{in_window, place_of, span};
+ghost use Rattle.std.specs.Prelude.{◌≡◌, ◌<◌};
 
 use crate::{SPAN, Write};
 
@@ -46,4 +46,12 @@ pub fn in_window(settled: u32, slot: u32) -> bool
     ensures { result ≡ in_window settled slot }
 {
     settled < slot && slot - settled <= SPAN as u32
+}
+
+/// The place of a slot among those of the window.
+pub fn place_of(slot: u32) -> usize
+    ensures place { result ≡ place_of slot }
+    ensures within { result < span }
+{
+    slot as usize % SPAN
 }

@@ -10,7 +10,7 @@ ghost use Rattle.journal.specs.Meaning.{Meaning, open_of, settled_of, Writes, Wi
 ghost use Rattle.journal.specs.declared.writes.Write.TheVariants.{Promise, Put, Settle};
 ghost use Rattle.journal.specs.declared.writes.Write.{Write};
 
-pub use bounds::{Bounds, in_window};
+pub use bounds::{Bounds, in_window, place_of};
 use command::Command;
 pub use writes::{Entry, Write, make_write};
 

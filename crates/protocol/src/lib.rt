@@ -9,8 +9,9 @@ mod messages;
 mod refusals;
 mod windows;
 
+pub use journal::place_of;
 pub use kinds::{Kind, UnknownKind};
 pub use laws::table_places;
 pub use messages::{Acknowledged, Message, Reply};
 pub use refusals::Refusal;
-pub use windows::{Window, place_of};
+pub use windows::Window;

@@ -1,17 +1,9 @@
 //! The slot window: an element for each of the eight slots after the settled ones, over eight handed places.
 
-ghost use Rattle.std.specs.Prelude.{◌≡◌, ◌<◌, length};
-ghost use Rattle.journal.specs.Windows.{span, place_of, element_at, put_at};
+ghost use Rattle.std.specs.Prelude.{◌≡◌, length};
+ghost use Rattle.journal.specs.Windows.{span, element_at, put_at};
 
-use journal::SPAN;
-
-/// The place of a slot among the eight.
-pub fn place_of(slot: u32) -> usize
-    ensures place { result ≡ place_of slot }
-    ensures within { result < span }
-{
-    slot as usize % SPAN
-}
+use journal::place_of;
 
 /// A window over eight places, in which slot n has place n mod 8. The rule is the same for every kind of element.
 // A slice, not `&mut [T; 8]`: to index such an array at a type parameter each method would have to ask how large a `T`

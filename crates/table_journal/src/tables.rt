@@ -5,7 +5,7 @@ ghost use Rattle.std.specs.Prelude.{◌≡◌, ◌≤◌, MatchResult, vec_items
 
 use crate::TableRefusal;
 use command::Command;
-use journal::{Bounds, Entry, Journal, MOST_SLOTS, SPAN, Write, in_window};
+use journal::{Bounds, Entry, Journal, MOST_SLOTS, SPAN, Write, in_window, place_of};
 use std::alloc::Global;
 
 /// A journal in memory. All its memory is taken when it is made, so no write fails for want of memory.
@@ -90,7 +90,7 @@ impl Journal for TableJournal {
 
     fn open(&self, slot: u32) -> Entry {
         if in_window(self.settled_count(), slot) {
-            self.places[slot as usize % SPAN]
+            self.places[place_of(slot)]
         } else {
             Entry::BLANK
         }
@@ -105,7 +105,7 @@ impl Journal for TableJournal {
                     slot,
                     ballot,
                     command,
-                } => self.places[slot as usize % SPAN] = Entry { ballot, command },
+                } => self.places[place_of(slot)] = Entry { ballot, command },
                 Write::Settle { command } => {
                     self.settled.push_reserved(command);
                     self.places[self.settled.len() % SPAN] = Entry::BLANK;

@@ -35,7 +35,8 @@ returns-in-Promise c =
 pub returns-in-Put : goal.returns-in-Put
 unfolding after
 returns-in-Put c =
-    writes_taken c.args.self.now _ _ _ _ c.takes-taken.ensures c.if-taken.true c.in-Put.is refl refl
+    writes_taken c.args.self.now _ _ _ _ c.takes-taken.ensures c.if-taken.true c.in-Put.is
+    (rw c.place_of.ensures.place refl) refl
 
 pub returns-in-Settle : goal.returns-in-Settle
 unfolding after
