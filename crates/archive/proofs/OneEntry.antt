@@ -1,5 +1,5 @@
 -- One entry: what is written of a command is read again as that command, and what is read is written again the same.
-use Rattle.std.proofs.Common.{◌≡◌, ℕ, ◌+◌, ◌<◌, ◌≤◌, true, cond, leb, List, ◌∷◌, ◌++◌, length, get_or, take, Some, None, Option, sym, refl, ap, ◌∙◌, arith}
+use Rattle.std.proofs.Common.{◌≡◌, ℕ, ◌+◌, ◌<◌, ◌≤◌, true, List, ◌∷◌, ◌++◌, length, get_or, take, Some, None, Option, sym, refl, ap, ◌∙◌, arith}
 use Rattle.std.proofs.lemmas.Bool.Decides.{nat_tests}
 use Rattle.std.proofs.lemmas.List.Elements.{All-get_or}
 use Rattle.octets.specs.Areas.{part}
@@ -54,11 +54,6 @@ reread c t h s =
 -- what an entry's size tells where there is one
 pub within_some : (s left n : ℕ) → within left (Some s) ≡ Some n → (n ≡ s) × (s ≤ left)
 within_some s left n h = grind (arith, nat_tests)
-
--- the same of an add or a remove
-pub directed_some : (a left n : ℕ) → within left (cond (leb a 31) (Some 2) None) ≡ Some n
-    → (leb a 31 ≡ true) × (n ≡ 2) × (2 ≤ left)
-directed_some a left n h = grind (arith, nat_tests)
 
 -- an entry has at least one byte, and lies within those that are left
 pub within_left : (bs : List ℕ) (s : ℕ) → size_of bs ≡ Some s → (1 ≤ s) × (s ≤ length bs)

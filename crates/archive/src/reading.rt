@@ -128,7 +128,7 @@ fn count_entries(entries: Entries) -> Result<usize, Broken>
 {
     let mut left = entries;
     let mut count = 0;
-    // Not `count()`, which would not tell what is left after the last whole entry.
+    // Not `count()`, which takes the iterator: what is left after the last whole entry is looked at below.
     while left.next().is_some() {
         count += 1;
     }

@@ -65,6 +65,7 @@ impl OpenArchive {
 
     /// Appends an entry. Refusals 5 (ill formed), 16 (65,535 entries) and 14 (no space); the archive is then handed
     /// back.
+    // Refused, it is handed back beside the refusal, as a pair: only the archive goes on, to a seal or a strike.
     pub fn add(
         self,
         area: &mut [u8],
@@ -141,7 +142,8 @@ fn write_header(area: &mut [u8], members: &[u8])
     write_bytes(area, HEADER_BYTES, members);
 }
 
-// How many bytes the entry of a command takes, if it may stand in a list.
+// How many bytes the entry of a command takes, if it may stand in a list. `size_of` of the reader is another table: it
+// tests the director that it finds, and asks for no more than the verb.
 fn entry_size(command: &Command) -> Option<usize>
     ensures { result ≡ entry_size command.now }
 {

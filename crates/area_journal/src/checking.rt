@@ -13,7 +13,7 @@ use crate::layout::{
 use crate::parts::Parts;
 use journal::{SPAN, in_window, place_of};
 
-// What opening finds: the first fault, if there is one.
+// Whether opening accepts an area, or its first fault.
 pub(crate) fn check(area: &[u8]) -> Result<(), OpenFault>
     ensures answer { MatchResult result (λ _. fault area.now ≡ None) (λ e. fault area.now ≡ Some e) }
     ensures exact { Exact area.now }

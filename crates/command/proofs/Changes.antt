@@ -1,17 +1,12 @@
 -- An add or a remove that has an effect: what the chain is then, and that it is a chain again.
 use Rattle.std.proofs.Common.{◌≡◌, ℕ, ◌<◌, ◌≤◌, true, false, List, [], ◌∷◌, ◌++◌, length, inl, inr, arith}
-use Rattle.std.proofs.lemmas.Bool.{cond-true, and_from, lt-ltb, not_from_false, both_ways, cases_Bool}
+use Rattle.std.proofs.lemmas.Bool.{cond-true, and_from, lt-ltb, both_ways, cases_Bool}
 use Rattle.std.proofs.lemmas.List.{length_push}
 use Rattle.command.specs.Sets.{has, with_director}
-use Rattle.command.specs.Members.{Membership, valid_chain, all_in, is_member, added, removed, without}
+use Rattle.command.specs.Members.{Membership, valid_chain, all_in, is_member, removed, without}
 use Rattle.command.proofs.Bits.{has_joined}
 use Rattle.command.proofs.Lists.{valid_parts, valid_from, different_push, different_without, all_in_has, all_in_more}
 use Rattle.command.proofs.Lists.{all_in_push, all_in_without, length_without, length_without_le}
-
-pub added_is : (m : Membership) (a : ℕ) → length m.members < 7 → has m.ever a ≡ false
-    → added a m ≡ record { members = m.members ++ (a ∷ []); ever = with_director m.ever a }
-added_is m a l h =
-    cond-true _ _ _ (and_from _ _ (lt-ltb (length m.members) 7 l) (not_from_false (has m.ever a) h))
 
 pub removed_is : (m : Membership) (a : ℕ) → 1 < length m.members → is_member a m.members ≡ true
     → removed a m ≡ record { members = without a m.members; ever = m.ever }

@@ -20,6 +20,9 @@ pub fn status(outcome: anyhow::Result<()>) -> ExitCode
     }
 }
 
+// The error is said here and not passed up to be said at the end: a print that fails is to end a program with no word. So each
+// call names the runtime and the program.
+
 /// What was done, or else its error, which is said on the error stream. A line that cannot be printed is an error too.
 pub fn or_fail<T: Drop, E: Display + Drop>(
     rt: &impl Eprint,
@@ -53,7 +56,7 @@ pub fn or_fail_at<T: Drop, E: Display + Drop>(
 }
 
 /// Says why the program ends.
-pub fn fail<E: Display>(rt: &impl Eprint, program: &str, said: &E) -> anyhow::Result<()>
+pub fn fail(rt: &impl Eprint, program: &str, said: &str) -> anyhow::Result<()>
     ensures { IsErr result }
 {
     or_fail(rt, program, Err(said))
@@ -92,6 +95,6 @@ mod tests {
     #[test]
     fn a_refusal_ends_with_status_1(rt: HostRuntime) {
         assert!(rt; status(Ok(())) == ExitCode::SUCCESS);
-        assert!(rt; status(fail(&rt, "year", &"refused 15 at 0")) == ExitCode::FAILURE);
+        assert!(rt; status(fail(&rt, "year", "refused 15 at 0")) == ExitCode::FAILURE);
     }
 }

@@ -10,7 +10,7 @@ use journal::Journal;
 pub(crate) fn run(rt: &HostRuntime) -> anyhow::Result<()> {
     let area = vec![in rt.alloc(); 0u8; 168 + 12 * 20]?;
     let Ok(mut journal) = AreaJournal::open(area) else {
-        return fail(rt, PROGRAM, &"a new area did not open");
+        return fail(rt, PROGRAM, "a new area did not open");
     };
     println!(rt; "a small area, written to:")?;
     write_some(&mut journal);
@@ -20,7 +20,7 @@ pub(crate) fn run(rt: &HostRuntime) -> anyhow::Result<()> {
         *byte = 7;
     }
     match AreaJournal::open(broken) {
-        Ok(_) => fail(rt, PROGRAM, &"the broken area was opened"),
+        Ok(_) => fail(rt, PROGRAM, "the broken area was opened"),
         Err(refused) => {
             println!(rt; "with one byte changed: {PROGRAM}: {refused}")?;
             Ok(())

@@ -24,7 +24,7 @@ fn run(rt: &HostRuntime) -> anyhow::Result<()> {
     match given.as_slice() {
         [] | [_] => demo::run(rt),
         [_, file] => dump(rt, file.as_str()),
-        _ => fail(rt, PROGRAM, &USAGE),
+        _ => fail(rt, PROGRAM, USAGE),
     }
 }
 

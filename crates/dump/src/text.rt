@@ -1,6 +1,6 @@
 //! A journal as text, newest slot first.
 
-use journal::Journal;
+use journal::{Journal, SPAN};
 use listing::{Fault, write_entry};
 use std::alloc::Global;
 
@@ -17,7 +17,7 @@ pub(crate) fn of<J: Journal>(heap: Global, journal: &J) -> Result<String, Fault>
     )?;
     writeln!(text, "settled {settled}")?;
     writeln!(text, "open, newest slot first:")?;
-    for ahead in (1..=8).rev() {
+    for ahead in (1..=SPAN as u32).rev() {
         write_open(&mut text, journal, settled + ahead)?;
     }
     writeln!(text, "settled, newest slot first:")?;

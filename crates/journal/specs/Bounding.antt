@@ -1,5 +1,5 @@
 -- The numbers of a journal that decide whether it takes a write.
-use Rattle.std.specs.Prelude.{◌≡◌, ℕ, Bool}
+use Rattle.std.specs.Prelude.{◌≡◌, Bool}
 use Rattle.journal.specs.declared.bounds.Bounds.{Bounds}
 use Rattle.journal.specs.declared.writes.Write.{Write}
 use Rattle.journal.specs.Meaning.{Meaning, settled_count, taken}

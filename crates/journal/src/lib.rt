@@ -22,6 +22,8 @@ pub const SPAN: usize = 8;
 
 /// A journal: a capacity, a promised ballot, a settled list, and an open entry for each of the `SPAN` slots after it.
 /// Questions change nothing. A write answers whether it was taken, and one that was not changes nothing.
+// No Option and no Result: each question has an answer for every slot, the no-op or the blank entry where there is nothing,
+// and a write is taken or not. Other implementations of a journal keep to these answers too.
 pub trait Journal {
     ghost meaning: { Self → Meaning };
 

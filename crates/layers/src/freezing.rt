@@ -34,6 +34,7 @@ impl<M: Machine> Freeze<M> {
     }
 
     /// The machine below.
+    // As in the other layer: no code takes either of them, so a trait for the two would have no caller.
     pub fn lower(&self) -> &M
         ensures { result.now ≡ self.now.lower }
     {

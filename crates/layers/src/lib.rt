@@ -2,14 +2,11 @@
 
 #![tactic(auto)]
 
-// Each layer has `over` and `lower`, and each `over` promises what its own layer is for. No code takes either layer, so
-// a trait for the two would have no caller.
 mod freezing;
 mod once;
 mod stacks;
 
 pub use freezing::Freeze;
-use machine::Machine;
 pub use once::OnceOnly;
 pub use stacks::Stack;
 

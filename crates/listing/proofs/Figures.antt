@@ -1,15 +1,13 @@
 -- A word of digits is read as the number that it writes.
-use Rattle.std.proofs.Common.{◌≡◌, ℕ, ◌<◌, ◌≤◌, true, List, [], ◌∷◌, length, get_or, Ok, Err, Option, Result, refl, arith, rules}
+use Rattle.std.proofs.Common.{◌≡◌, ℕ, ◌<◌, ◌≤◌, true, List, [], ◌∷◌, length, get_or, refl, arith, rules}
 use Rattle.std.specs.List.{list_all}
 use Rattle.std.specs.Str.{all_ascii_digits, IsAscii, IsUtf8}
 use Rattle.std.specs.Char.{is_ascii_digit}
-use Rattle.std.specs.Result.{result_ok}
 use Rattle.std.proofs.lemmas.Bool.Decides.{nat_tests}
 use Rattle.std.proofs.lemmas.Str.Parse.{IsNumeralModel, numerals_by_fold}
 use Rattle.std.proofs.lemmas.Str.{IsUtf8-from_ascii}
 use Rattle.std.proofs.lemmas.Str.Ascii.{IsAscii-nil, IsAscii-cons}
 use Rattle.listing.specs.Numbers.{plain, read_on}
-use Rattle.listing.specs.Answers.{Reads}
 
 -- numbers in digits, as the library's lemmas know them
 pub own : IsNumeralModel (λ ds. all_ascii_digits ds ≡ true) (read_on 0)
@@ -25,12 +23,6 @@ pub plain_is : (w : List ℕ) → 1 ≤ length w → (1 < length w → get_or w 
 plain_is [] h z = absurd (omega arith)
 plain_is (c ∷ []) h z = all_digits (c ∷ [])
 plain_is (c ∷ d ∷ cs) h z = grind (arith, nat_tests, all_digits (c ∷ d ∷ cs))
-
--- what a type reads a plain word as is what the word is read as
-pub reads_parsed : {A E : Type 0} (gives : List ℕ → Result A E → Type 0) (w : List ℕ) (p : Result A E) (r : Option A) →
-    plain w ≡ true → gives w p → r ≡ result_ok p → Reads gives w r
-reads_parsed gives w (Ok n) r h g e = rw e (h, g)
-reads_parsed gives w (Err f) r h g e = rw e (λ _. (f, g))
 
 -- a plain word is all digits, and not empty
 pub digits_from_plain : (w : List ℕ) → plain w ≡ true → (all_ascii_digits w ≡ true) × (0 < length w)

@@ -63,10 +63,6 @@ pub directors_stop : (w : List ℕ) (all ws : List (List ℕ)) (bs : List ℕ) (
 directors_stop w all ws bs None p s e = refl
 directors_stop w all ws bs (Some ds) p s e = grind arith
 
-pub members_end : (all : List (List ℕ)) (bs : List ℕ) (left : List (List ℕ)) → left ≡ [] →
-    bytes (directors all) ≡ after_bytes bs (bytes (directors left)) → Ok bs ≡ members_told (directors all)
-members_end all bs left s e = grind (arith, append-nil {A = ℕ})
-
 -- a chain as it was made, with the fault for its refusal
 abbrev pub from_number : Result Membership ℕ → Result Membership Fault
 from_number (Ok m) = Ok m
@@ -87,10 +83,6 @@ chain_word line all ws (Some w) chain b p s q h = rw (← p, s, h, q) (grind ari
 pub some_directors_is : (ws : List (List ℕ)) → 0 < length ws → some_directors ws ≡ directors ws
 some_directors_is [] h = absurd (omega arith)
 some_directors_is (w ∷ ws) h = refl
-
-pub no_directors : (ws : List (List ℕ)) → length ws ≡ 0 → some_directors ws ≡ None
-no_directors [] h = refl
-no_directors (w ∷ ws) h = absurd (omega arith)
 
 -- bytes make a chain where the directors do, and the same one
 bytes_same : (ms : List ℕ) → different_directors ms ≡ true → map as_byte ms ≡ ms

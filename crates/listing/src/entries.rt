@@ -11,6 +11,11 @@ use std::num::ParseIntError;
 use std::str;
 use std::str::FromStr;
 
+// The verbs of an add and a remove: numbers with names, since a command may have any verb.
+const ADD: u8 = 1;
+
+const REMOVE: u8 = 2;
+
 /// A line, without its end, as the command that it tells; well formed or not.
 pub fn read_entry(line: &[u8]) -> Option<Command>
     ensures { result ≡ read_entry line.now }
@@ -18,14 +23,14 @@ pub fn read_entry(line: &[u8]) -> Option<Command>
     let mut words = Pieces::words(line);
     match str::from_utf8(words.next()?).ok()? {
         "noop" => end(words, Command::NOOP),
-        "add" => read_member(words, 1),
-        "remove" => read_member(words, 2),
+        "add" => read_member(words, ADD),
+        "remove" => read_member(words, REMOVE),
         "change" => read_change(words),
         _ => None,
     }
 }
 
-// The director that follows an add or a remove. Its verb is a number, as in a command, which may have any content.
+// The director that follows an add or a remove, whose verb this is.
 fn read_member(mut words: Pieces, verb: u8) -> Option<Command>
     ensures { result ≡ member_of verb words.entry }
 {

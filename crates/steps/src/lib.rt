@@ -1,4 +1,4 @@
-//! The memory of a director, and the steps that its calls are made of. Building blocks: the calls stand in `director`.
+//! The memory of a director, and the steps that its calls are made of. The calls themselves are not here yet.
 
 #![tactic(auto)]
 

@@ -8,6 +8,8 @@ use command::{Chain, Command, DirectorSet};
 use journal::{Entry, SPAN};
 use protocol::Acknowledged;
 
+// Two states with names of the field, and no Option.
+
 /// A director follows, or it stands as a leader with those that promised its ballot and what they reported.
 #[derive(Clone, Copy, PartialEq, Eq, Debug)]
 pub enum Role {

@@ -20,6 +20,7 @@ pub enum TableRefusal {
 
 impl TableRefusal {
     /// The number of this refusal; want of memory has none.
+    // A match and no discriminants, since one has none.
     pub fn number(self) -> Option<u8>
         ensures { result ≡ refusal_number self }
     {

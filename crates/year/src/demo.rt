@@ -23,25 +23,26 @@ change 255 65535 4294967295 65535 65535
 ";
 
 /// Seals the small year, reads it back, and prints what was done.
+// A refusal here would be a fault of the program, and is said as one.
 pub(crate) fn run(rt: &HostRuntime) -> anyhow::Result<()> {
     let heap = rt.alloc();
     println!(rt; "a small year, as text:")?;
     rt.print(LIST)?;
     let Ok(year) = seal_text(heap, LIST.as_bytes()) else {
-        return fail(rt, PROGRAM, &"the small year was not sealed");
+        return fail(rt, PROGRAM, "the small year was not sealed");
     };
     jobs::print_sealed(rt, &year)?;
     fs::write(rt, FILE, year.file.as_slice())?;
     let mut file = fs::read(rt, FILE)?;
     if file != year.file {
-        return fail(rt, PROGRAM, &"the file is not what was written");
+        return fail(rt, PROGRAM, "the file is not what was written");
     }
     println!(rt; "wrote {FILE} and read the same bytes back")?;
     let Ok(text) = text_of(heap, file.as_slice()) else {
-        return fail(rt, PROGRAM, &"the file was refused");
+        return fail(rt, PROGRAM, "the file was refused");
     };
     if text.as_str() != LIST {
-        return fail(rt, PROGRAM, &"the text is not what was sealed");
+        return fail(rt, PROGRAM, "the text is not what was sealed");
     }
     println!(rt; "its text is the text that was sealed")?;
     show_and_break(rt, &mut file)
@@ -57,7 +58,7 @@ fn show_and_break(rt: &HostRuntime, file: &mut Vec<u8>) -> anyhow::Result<()> {
         *byte = 3;
     }
     match Reader::open(file.as_slice()) {
-        Ok(_) => fail(rt, PROGRAM, &"the broken file was read"),
+        Ok(_) => fail(rt, PROGRAM, "the broken file was read"),
         Err(broken) => {
             println!(rt; "with one byte changed: {PROGRAM}: {broken}")?;
             Ok(())

@@ -32,6 +32,6 @@ fn run(rt: &HostRuntime) -> anyhow::Result<()> {
         ["read", file] => jobs::read(rt, file),
         ["show", file] => jobs::show(rt, file, Stack::new()),
         ["show", file, "ledger"] => jobs::show(rt, file, Ledger::new()),
-        _ => console::fail(rt, jobs::PROGRAM, &USAGE),
+        _ => console::fail(rt, jobs::PROGRAM, USAGE),
     }
 }
