@@ -7,6 +7,7 @@ use console::fail;
 use journal::Journal;
 
 /// Makes a small area, writes to it, dumps it, breaks one byte, and prints the refusal that opening then gives.
+// A refusal before that would be a fault of the program, and is said as one.
 pub(crate) fn run(rt: &HostRuntime) -> anyhow::Result<()> {
     let area = vec![in rt.alloc(); 0u8; 168 + 12 * 20]?;
     let Ok(mut journal) = AreaJournal::open(area) else {
