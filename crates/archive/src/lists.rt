@@ -11,10 +11,10 @@ use thiserror::Error;
 #[derive(Clone, Copy, PartialEq, Eq, Hash, Debug, Error)]
 pub enum ListRefusal {
     /// The beginning: the chain is not valid, or there is no space for it.
-    #[error("{0}")]
+    #[error("refused {code}: {refusal}", code = .0.number(), refusal = .0)]
     Begin(Refusal),
     /// An entry, counted from 1.
-    #[error("entry {number}: {refusal}")]
+    #[error("refused {code} at entry {number}: {refusal}", code = .refusal.number())]
     Entry { number: usize, refusal: Refusal },
 }
 
