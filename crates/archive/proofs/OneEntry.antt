@@ -14,6 +14,27 @@ use Rattle.command.specs.Commands.{verb_of, well_formed, serial_bytes, Sized}
 use Rattle.archive.specs.Layout.{entry_as, entry}
 use Rattle.archive.specs.Reading.{size_as, within, size_of, command_as, command_of}
 
+-- which numbers a kind of verb has
+abbrev pub Is : Option Verb → ℕ → Type 0
+Is None n = Unit {0}
+Is (Some Noop) n = n ≡ 0
+Is (Some Add) n = n ≡ 1
+Is (Some Remove) n = n ≡ 2
+Is (Some Change) n = 16 ≤ n
+
+-- a number has the kind of verb that it is read as
+pub kind_of_verb : (n : ℕ) (v : Option Verb) → verb_of n ≡ v → Is v n
+kind_of_verb n None e = tt
+kind_of_verb n (Some Noop) e = grind (arith, nat_tests)
+kind_of_verb n (Some Add) e = grind (arith, nat_tests)
+kind_of_verb n (Some Remove) e = grind (arith, nat_tests)
+kind_of_verb n (Some Change) e = grind (arith, nat_tests)
+
+-- commands are the same where their fields are
+pub command_same_is : (c d : Command) → c.verb ≡ d.verb → c.origin ≡ d.origin → c.serial ≡ d.serial → c.a ≡ d.a
+    → c.b ≡ d.b → c ≡ d
+command_same_is c d p q r s t = λ i. record { verb = p i; origin = q i; serial = r i; a = s i; b = t i }
+
 -- an entry, read again with anything after it
 pub record Reread (es : List ℕ) (c : Command) (t : List ℕ) : Type 0 where
   pub size : size_of (es ++ t) ≡ Some (length es)

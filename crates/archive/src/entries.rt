@@ -60,7 +60,7 @@ impl<'a> Iterator for Entries<'a> {
     ghost remaining = { λ s. at_most (length s.rest.now) };
 
     /// The next entry, if there is one.
-    #[tactic(auto, using(crate::proofs::Parts::part_told))]
+    #[tactic(auto, using(crate::proofs::Parts::part_told, std::proofs::lemmas::List::take_rest))]
     fn next(&mut self) -> Option<Entry<'a>> {
         let size = size_of(self.rest)?;
         let offset = self.offset();

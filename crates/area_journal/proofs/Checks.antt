@@ -1,5 +1,5 @@
 -- The checks of opening, one after another.
-use Rattle.std.specs.Prelude.{◌≡◌, ℕ, zero, suc, ◌+◌, ◌<◌, ◌≤◌, Bool, true, false, not, cond, List, length, Some, None, Option, refl}
+use Rattle.std.specs.Prelude.{◌≡◌, ℕ, zero, suc, ◌+◌, ◌-◌, ◌<◌, ◌≤◌, Bool, true, false, not, cond, List, length, Some, None, Option, refl}
 use Rattle.std.proofs.Common.{sym, ◌∙◌, inl, inr}
 use Rattle.std.proofs.Math.Path.{ap}
 use native.Mathlib.Omega.{arith}
@@ -13,6 +13,20 @@ use Rattle.area_journal.specs.Opening.{place_is_good, record_is_good, first_bad,
 
 pub some_none : {X : Type 0} {x : X} → ◌≡◌ {A = Option X} (Some x) None → ⊥
 some_none e = let z : ◌≡◌ {A = ℕ} 0 1 = cc in omega arith
+
+-- going through the numbers below n from i on
+module _ (f : ℕ → Bool) (i n : ℕ) where
+  -- where i fails the test, it is the first bad one
+  pub bad_here : i < n → f i ≡ false → first_bad f i (n - i) ≡ Some i
+  bad_here l e = let k : n - i ≡ suc (n - (i + 1)) = omega arith in rw (k, e)
+
+  -- where i passes the test, the first bad one is that of the numbers after it
+  pub bad_later : i < n → f i ≡ true → first_bad f i (n - i) ≡ first_bad f (i + 1) (n - (i + 1))
+  bad_later l e = let k : n - i ≡ suc (n - (i + 1)) = omega arith in rw (k, e)
+
+  -- where no number is left, none is bad
+  pub bad_none : n ≤ i → first_bad f i (n - i) ≡ None
+  bad_none l = let k : n - i ≡ 0 = omega arith in rw k
 
 -- none is bad exactly where all are good
 pub all_good : (f : ℕ → Bool) (k i : ℕ) → first_bad f i k ≡ None → (j : ℕ) → i ≤ j → j < i + k → f j ≡ true
@@ -46,6 +60,16 @@ module _ (area : List ℕ) where
         (or_later record_at (first_bad (record_is_good area) 0 (count_of area)) None)
     unfolding fault
     fault_later = grind (arith, nat_tests)
+
+    -- a bad place is the fault
+    pub fault_place : (i : ℕ) → Some i ≡ first_bad (place_is_good area) 0 8 → fault area ≡ Some (Broken (place_at i))
+    fault_place i e = rw (fault_later, ← e)
+
+    -- where no place is bad, a bad record is the fault
+    pub fault_record : (i : ℕ) → None ≡ first_bad (place_is_good area) 0 8
+        → Some i ≡ first_bad (record_is_good area) 0 (count_of area)
+        → fault area ≡ Some (Broken (record_at i))
+    fault_record i e h = rw (fault_later, ← e, ← h)
 
     pub fault_none : None ≡ first_bad (place_is_good area) 0 8 → None ≡ first_bad (record_is_good area) 0 (count_of area)
         → fault area ≡ None

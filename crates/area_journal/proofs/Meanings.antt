@@ -1,5 +1,5 @@
 -- The meaning of an area, part by part.
-use Rattle.std.proofs.Common.{◌≡◌, ℕ, ◌+◌, ◌-◌, ◌/◌, ◌<◌, min, Bool, true, false, List, [], ◌∷◌, ◌++◌, map, length, get_or, set, sym, ap, ◌∙◌, ap₂, inl, inr, arith}
+use Rattle.std.proofs.Common.{◌≡◌, ℕ, ◌+◌, ◌-◌, ◌/◌, ◌<◌, min, Bool, true, false, List, [], ◌∷◌, ◌++◌, map, length, get_or, set, refl, sym, ap, ◌∙◌, ap₂, inl, inr, arith}
 use Rattle.std.specs.List.{range_with_len}
 use Rattle.std.proofs.lemmas.List.FromFn.{length-map-range_with_len, get_or-map-range_with_len, map-range_with_len_more, fill_by_all}
 use Rattle.std.proofs.lemmas.List.{length-set, get_or-set_same, get_or-set_other}
@@ -60,6 +60,10 @@ pub count_is : (area : List ℕ) → settled_count (meaning_of area) ≡ count_o
 unfolding meaning_of
 count_is area = length-map-range_with_len (command_in area) 0 (count_of area)
 
+pub promised_is : (area : List ℕ) → (meaning_of area).promised ≡ promised_of area
+unfolding meaning_of
+promised_is area = refl
+
 -- a settle is taken only where a slot is left
 pub less_settle : (area : List ℕ) (c : Command) → taken (Settle c) (meaning_of area) ≡ true
     → count_of area < capacity_of area
@@ -116,3 +120,6 @@ pub decided : (b : Bounds) (w : Write) (r : Bool) (area : List ℕ) → Decides 
     → r ≡ taken w (meaning_of area)
 unfolding meaning_of
 decided b w r area d c p n = d.tells (meaning_of area) c p (n ∙ sym (count_is area))
+
+-- what tells whether a write is taken, from the numbers of its area
+pub ruleset decisions = (decided, promised_is)

@@ -41,6 +41,7 @@ impl AreaJournal {
     }
 
     /// Makes a write if it is taken, and answers whether it was. It alters the bytes of that write and no others.
+    #[inline(always)]
     #[tactic(auto, using(crate::proofs::Keeping::did_in, crate::proofs::Meanings::does_not))]
     pub fn write(&mut self, write: Write) -> bool
         ensures does { Does write (bytes_of self.old) (bytes_of self.new) result }
@@ -66,7 +67,8 @@ impl AreaJournal {
     }
 
     // Whether a write is taken.
-    #[tactic(auto, using(crate::proofs::Meanings::decided))]
+    #[inline(always)]
+    #[tactic(auto, unfolding(journal::specs::Meaning::taken), using(crate::proofs::Meanings::decisions))]
     fn takes(&self, write: Write) -> bool
         ensures { result ≡ taken write (meaning_of (bytes_of self.now)) }
     {
@@ -122,6 +124,7 @@ impl Journal for AreaJournal {
         }
     }
 
+    #[inline(always)]
     fn take(&mut self, write: Write) -> bool {
         self.write(write)
     }

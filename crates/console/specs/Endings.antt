@@ -1,7 +1,12 @@
 -- How a program ends.
-use Rattle.std.specs.Prelude.{ℕ, Result, Ok, Err}
+use Rattle.std.specs.Prelude.{ℕ, List, ◌++◌, Option, option_map, Result, Ok, Err, codes}
+use Rattle.console.specs.declared.Named.{Named}
 
 -- the status: 0 where all went well, else 1
 abbrev pub status_of : {T E : Type 0} → Result T E → ℕ
 status_of (Ok _) = 0
 status_of (Err _) = 1
+
+-- the words for what is said under a name, where `words` tells those of what is said: `name: words`
+abbrev pub named_text : {E : Type 0} → (E → Option (List ℕ)) → Named E → Option (List ℕ)
+named_text words n = option_map (λ ws. n.name.now ++ codes ": " ++ ws) (words n.said)

@@ -3,7 +3,7 @@
 #![tactic(auto)]
 
 ghost use Rattle.std.specs.Prelude.{◌≡◌, IsErr, MatchResult, Ok};
-ghost use Rattle.console.specs.Endings.{status_of};
+ghost use Rattle.console.specs.Endings.{status_of, named_text};
 
 use anyhow::anyhow;
 use std::fmt;
@@ -34,7 +34,10 @@ pub fn or_fail<T: Drop, E: Display + Drop>(
     match done {
         Ok(value) => Ok(value),
         Err(error) => {
-            eprintln!(rt; "{program}: {error}")?;
+            rt.eprintln(Named {
+                name: program,
+                said: error,
+            })?;
             Err(anyhow!("refused"))
         }
     }
@@ -51,7 +54,14 @@ pub fn or_fail_at<T: Drop, E: Display + Drop>(
 {
     match done {
         Ok(found) => Ok(found),
-        Err(error) => or_fail(rt, program, Err(AtFile { path, error })),
+        Err(error) => or_fail(
+            rt,
+            program,
+            Err(Named {
+                name: path,
+                said: error,
+            }),
+        ),
     }
 }
 
@@ -62,24 +72,74 @@ pub fn fail(rt: &impl Eprint, program: &str, said: &str) -> anyhow::Result<()>
     or_fail(rt, program, Err(said))
 }
 
-// An error with the name of the file at which it came.
+/// What is said under a name, as `name: words`: an error under its program's, which is the line that a refusal prints,
+/// or under that of the file at which it came.
 #[derive(Drop)]
-struct AtFile<'a, E> {
-    path: &'a str,
-    error: E,
+pub struct Named<'a, E> {
+    pub name: &'a str,
+    pub said: E,
 }
 
-impl<E: Display> Display for AtFile<'_, E> {
+impl<E: Display> Display for Named<'_, E> {
+    ghost output = { named_text E.output };
+
     fn fmt<W: fmt::Write>(&self, f: &mut fmt::Formatter<W>) -> fmt::Result {
-        write!(f, "{}: {}", self.path, self.error)
+        write!(f, "{}: {}", self.name, self.said)
     }
 }
 
 #[cfg(test)]
 mod tests {
     use crate::{fail, or_fail, or_fail_at, status};
+    use std::alloc::Global;
+    use std::cell::RefCell;
+    use std::fmt::Display;
+    use std::io;
     use std::process::ExitCode;
     use std::test::Fail;
+
+    // An error stream that keeps what is printed.
+    #[derive(Drop)]
+    struct Kept {
+        heap: Global,
+        text: RefCell<String>,
+    }
+
+    impl Eprint for Kept {
+        fn eprint<D: Display + Drop>(&self, value: D) -> io::Result<()> {
+            let printed = format!(in self.heap; "{value}")?;
+            self.text.try_borrow_mut()?.push_str(printed.as_str())?;
+            Ok(())
+        }
+
+        fn eprintln<D: Display + Drop>(&self, value: D) -> io::Result<()> {
+            self.eprint(value)?;
+            self.text.try_borrow_mut()?.push('\n')?;
+            Ok(())
+        }
+    }
+
+    #[test]
+    fn a_refusal_is_one_line(rt: HostRuntime) -> Result<(), Fail> {
+        let heap = rt.alloc();
+        let kept = Kept {
+            heap,
+            text: RefCell::new(String::new(heap)),
+        };
+        assert!(rt; fail(&kept, "year", "usage").is_err());
+        let refused: Result<u8, &str> = Err("refused 15 at 0");
+        assert!(rt; or_fail(&kept, "dump", refused).is_err());
+        assert!(rt; or_fail_at(&kept, "year", "a file", refused).is_err());
+        let done: Result<u8, &str> = Ok(7);
+        assert_eq!(rt; or_fail(&kept, "dump", done)?, 7);
+        assert_eq!(rt; or_fail_at(&kept, "year", "a file", done)?, 7);
+        let text = kept.text.into_inner();
+        assert_eq!(rt;
+            text.as_str(),
+            "year: usage\ndump: refused 15 at 0\nyear: a file: refused 15 at 0\n"
+        );
+        Ok(())
+    }
 
     #[test]
     fn what_was_done_goes_on(rt: HostRuntime) -> Result<(), Fail> {

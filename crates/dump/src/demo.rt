@@ -3,7 +3,7 @@
 use crate::{PROGRAM, print};
 use area_journal::AreaJournal;
 use command::Command;
-use console::fail;
+use console::{Named, fail};
 use journal::Journal;
 
 /// Makes a small area, writes to it, dumps it, breaks one byte, and prints the refusal that opening then gives.
@@ -23,7 +23,11 @@ pub(crate) fn run(rt: &HostRuntime) -> anyhow::Result<()> {
     match AreaJournal::open(broken) {
         Ok(_) => fail(rt, PROGRAM, "the broken area was opened"),
         Err(refused) => {
-            println!(rt; "with one byte changed: {PROGRAM}: {refused}")?;
+            let line = Named {
+                name: PROGRAM,
+                said: refused,
+            };
+            println!(rt; "with one byte changed: {line}")?;
             Ok(())
         }
     }

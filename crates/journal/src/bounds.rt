@@ -17,6 +17,7 @@ impl Bounds {
     ghost use Rattle.journal.specs.Bounding.{Decides};
 
     /// Whether a journal with these numbers takes a write.
+    #[inline(always)]
     #[tactic(auto, unfolding(crate::specs::Meaning::taken))]
     pub fn allow(self, write: Write) -> bool
         ensures { Decides self write result }

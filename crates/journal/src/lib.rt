@@ -55,15 +55,20 @@ pub trait Journal {
     fn take(&mut self, write: Write) -> bool
         ensures { Writes meaning behind write self.old self.new result };
 
+    // The hints to the compiler here, at `Bounds::allow` and at each `take`: a caller of one of these three knows the
+    // kind of its write, and with the bodies in one place the match on the kind goes.
+
     /// Promises a ballot that is not below the promised one.
-    final fn promise(&mut self, ballot: u32) -> bool
+    #[inline(always)]
+    fn promise(&mut self, ballot: u32) -> bool
         ensures { Writes meaning behind (Promise ballot) self.old self.new result }
     {
         self.take(Write::Promise { ballot })
     }
 
     /// Puts a command with the promised ballot into a slot of the window.
-    final fn put(&mut self, slot: u32, ballot: u32, command: &Command) -> bool
+    #[inline(always)]
+    fn put(&mut self, slot: u32, ballot: u32, command: &Command) -> bool
         ensures { Writes meaning behind (Put slot ballot command.now) self.old self.new result }
     {
         self.take(Write::Put {
@@ -74,7 +79,8 @@ pub trait Journal {
     }
 
     /// Settles a command in the next slot.
-    final fn settle(&mut self, command: &Command) -> bool
+    #[inline(always)]
+    fn settle(&mut self, command: &Command) -> bool
         ensures { Writes meaning behind (Settle command.now) self.old self.new result }
     {
         self.take(Write::Settle { command: *command })

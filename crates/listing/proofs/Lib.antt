@@ -2,6 +2,7 @@ pub mod Cutting
 pub mod Figures
 pub mod Fields
 pub mod Lined
+pub mod FirstWords
 pub mod Whole
 pub mod Written
 pub mod Back

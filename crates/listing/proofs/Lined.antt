@@ -1,6 +1,6 @@
 -- A line's command by its first word.
-use Rattle.std.proofs.Common.{◌≡◌, ℕ, false, List, [], ◌∷◌, None, codes, sym, refl, ap, ◌∙◌, arith, rules}
-use Rattle.std.specs.Str.{bytes_eq, IsUtf8}
+use Rattle.std.proofs.Common.{◌≡◌, ℕ, false, List, [], ◌∷◌, None, codes, sym, ap, ◌∙◌, arith}
+use Rattle.std.specs.Str.{bytes_eq}
 use Rattle.std.proofs.lemmas.Slice.Eq.{bytes_eq-Decides}
 use Rattle.listing.specs.Pieces.{words}
 use Rattle.listing.specs.Reading.{read_entry, entry_of}
@@ -14,7 +14,7 @@ entry_from : (line w : List ℕ) (all ws : List (List ℕ)) → all ≡ words li
 unfolding read_entry
 entry_from line w all ws p q = ap entry_of (sym p ∙ q)
 
--- the first word, as text, is x
+-- the first word, of the bytes t, is x
 pub entry_word : (line w t x : List ℕ) (all ws : List (List ℕ)) → all ≡ words line → all ≡ w ∷ ws → t ≡ w → t ≡ x →
     entry_of (x ∷ ws) ≡ read_entry line
 entry_word line w t x all ws p q s e = ap (λ v. entry_of (v ∷ ws)) (sym e ∙ s) ∙ sym (entry_from line w all ws p q)
@@ -26,10 +26,3 @@ pub entry_other : (line w t : List ℕ) (all ws : List (List ℕ)) → all ≡ w
     (t ≡ codes "noop" → ⊥) → (t ≡ codes "add" → ⊥) → (t ≡ codes "remove" → ⊥) → (t ≡ codes "change" → ⊥) →
     None ≡ read_entry line
 entry_other line w t all ws p q s n a r c = rw (entry_from line w all ws p q, ← s) (grind (arith, differs))
-
--- the first word is no text
-pub entry_untold : (line w : List ℕ) (all ws : List (List ℕ)) → all ≡ words line → all ≡ w ∷ ws → (IsUtf8 w → ⊥) →
-    None ≡ read_entry line
-entry_untold line w all ws p q n =
-    entry_other line w w all ws p q refl (λ e. n (rw e (search rules))) (λ e. n (rw e (search rules)))
-    (λ e. n (rw e (search rules))) (λ e. n (rw e (search rules)))

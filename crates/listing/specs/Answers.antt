@@ -1,10 +1,10 @@
 -- What the values of the code stand for.
-use Rattle.std.specs.Prelude.{◌≡◌, ℕ, min, Bool, true, false, cond, List, [], ◌∷◌, ◌++◌, map, codes, decimal, Some, None, Ok, Err, vec_items, Option, Result}
+use Rattle.std.specs.Prelude.{◌≡◌, ℕ, ◌≤◌, min, Bool, true, false, cond, List, [], ◌∷◌, ◌++◌, map, codes, decimal, Some, None, Ok, Err, vec_items, Option, Result}
 use Rattle.command.specs.Members.{Membership, valid_chain, founded}
 use Rattle.listing.specs.declared.faults.Fault.{Fault}
 use Rattle.listing.specs.declared.faults.Fault.TheVariants.{InvalidChain, IllFormed, Unreadable, Memory}
 use Rattle.listing.specs.declared.lists.YearList.{YearList}
-use Rattle.listing.specs.Numbers.{plain}
+use Rattle.listing.specs.Numbers.{plain, read_on, max64}
 use Rattle.listing.specs.Reading.{Listed}
 
 -- the number of the refusal; a line that cannot be read and want of memory have none
@@ -22,13 +22,14 @@ fault_text (Unreadable line) =
     codes "line " ++ decimal line ++ codes " cannot be read: see docs/list-format.md for the form of a list"
 fault_text Memory = codes "no memory is left"
 
--- a word as a number, where `gives` tells what the number's type reads a text as: it is written plainly, and read so
-abbrev pub Reads : {A E : Type 0} → (List ℕ → Result A E → Type 0) → List ℕ → Option A → Type 0
-Reads {E = E} gives w None = plain w ≡ true → (e : E) × gives w (Err e)
-Reads gives w (Some n) = (plain w ≡ true) × gives w (Ok n)
+-- a word as a number, where `gives` tells what the number's type makes of a number: it is written plainly, fits 64 bits,
+-- and is made so
+abbrev pub Reads : {A E : Type 0} → (ℕ → Result A E → Type 0) → List ℕ → Option A → Type 0
+Reads {E = E} gives w None = plain w ≡ true → read_on 0 w ≤ max64 → (e : E) × gives (read_on 0 w) (Err e)
+Reads gives w (Some n) = (plain w ≡ true) × gives (read_on 0 w) (Ok n)
 
 -- the next word is read as a number, and the words after it are left
-abbrev pub Field : {A E : Type 0} → (List ℕ → Result A E → Type 0) → List (List ℕ) → Option A → List (List ℕ) → Type 0
+abbrev pub Field : {A E : Type 0} → (ℕ → Result A E → Type 0) → List (List ℕ) → Option A → List (List ℕ) → Type 0
 Field gives [] r ws' = (r ≡ None)
 Field gives (w ∷ ws) r ws' = (ws' ≡ ws) × Reads gives w r
 

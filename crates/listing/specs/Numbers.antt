@@ -1,5 +1,5 @@
 -- Numbers in decimal digits: how they are written, and which words are read as numbers.
-use Rattle.std.specs.Prelude.{ℕ, zero, suc, ◌+◌, ◌-◌, ◌*◌, ◌/◌, ◌%◌, Bool, false, cond, not, ◌&&◌, List, [], ◌∷◌, ◌++◌, Some, None, Option, ◌==◌, nat_le, nat_lt}
+use Rattle.std.specs.Prelude.{ℕ, zero, suc, ◌+◌, ◌-◌, ◌*◌, ◌^◌, ◌/◌, ◌%◌, Bool, false, cond, not, ◌&&◌, List, [], ◌∷◌, ◌++◌, Some, None, Option, ◌==◌, nat_le, nat_lt}
 use Rattle.std.specs.Str.{all_ascii_digits}
 
 -- the digits of n as bytes, k of them at most: the front of the number, then its last digit
@@ -21,6 +21,10 @@ abbrev pub plain : List ℕ → Bool
 plain [] = false
 plain (c ∷ []) = all_ascii_digits (c ∷ [])
 plain (c ∷ d ∷ cs) = not (c == 48) && all_ascii_digits (c ∷ d ∷ cs)
+
+-- the largest number of 64 bits
+abbrev pub max64 : ℕ
+max64 = 2 ^ 64 - 1
 
 -- a word as a number of at most max
 abbrev pub numeral : ℕ → List ℕ → Option ℕ

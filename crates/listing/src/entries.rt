@@ -7,9 +7,7 @@ ghost use Rattle.std.specs.Prelude.{◌≡◌};
 use crate::cuts::Pieces;
 use crate::numerals::read_number;
 use command::Command;
-use std::num::ParseIntError;
-use std::str;
-use std::str::FromStr;
+use std::num::TryFromIntError;
 
 // The verbs of an add and a remove: numbers with names, since a command may have any verb.
 const ADD: u8 = 1;
@@ -21,11 +19,12 @@ pub fn read_entry(line: &[u8]) -> Option<Command>
     ensures { result ≡ read_entry line.now }
 {
     let mut words = Pieces::words(line);
-    match str::from_utf8(words.next()?).ok()? {
-        "noop" => end(words, Command::NOOP),
-        "add" => read_member(words, ADD),
-        "remove" => read_member(words, REMOVE),
-        "change" => read_change(words),
+    // By the bytes: whether a word is text need not be known, and the test of it takes a tenth of reading a list.
+    match words.next()? {
+        word if word == b"noop".as_slice() => end(words, Command::NOOP),
+        word if word == b"add".as_slice() => read_member(words, ADD),
+        word if word == b"remove".as_slice() => read_member(words, REMOVE),
+        word if word == b"change".as_slice() => read_change(words),
         _ => None,
     }
 }
@@ -60,8 +59,8 @@ fn read_change(mut words: Pieces) -> Option<Command>
 }
 
 // The next word as a number of the field's type.
-fn read_field<T: FromStr<Err = ParseIntError>>(words: &mut Pieces) -> Option<T>
-    ensures { Field T.from_str_gives words.old result words.new }
+fn read_field<T: TryFrom<u64, Error = TryFromIntError>>(words: &mut Pieces) -> Option<T>
+    ensures { Field T.try_from_gives words.old result words.new }
 {
     read_number(words.next()?)
 }

@@ -92,6 +92,8 @@ impl<J: Journal> Journal for LoggedJournal<J> {
     }
 
     // Makes a write below, and keeps it if it was taken there.
+    #[inline(always)]
+    #[tactic(auto, unfolding(journal::specs::Meaning::wrote))]
     fn take(&mut self, write: Write) -> bool {
         let taken = self.lower.take(write);
         if taken {

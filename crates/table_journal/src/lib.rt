@@ -33,6 +33,20 @@ mod tests {
         Ok(())
     }
 
+    // A caller that knows a journal by its trait alone.
+    fn settles_first(journal: &mut dyn Journal, command: &Command) -> bool {
+        journal.promise(3) && journal.put(1, 3, command) && journal.settle(command)
+    }
+
+    #[test]
+    fn a_journal_is_written_by_its_trait_alone(rt: HostRuntime) -> Result<(), Fail> {
+        let mut journal = TableJournal::new(rt.alloc(), 1)?;
+        assert!(rt; settles_first(&mut journal, &CHANGE));
+        assert_eq!(rt; journal.settled(1), CHANGE);
+        assert!(rt; !settles_first(&mut journal, &CHANGE));
+        Ok(())
+    }
+
     #[test]
     fn a_refusal_tells_why(rt: HostRuntime) -> Result<(), Fail> {
         let told = format!(in rt.alloc(); "{}", TableRefusal::NoRecord)?;

@@ -48,6 +48,8 @@ impl TableJournal {
     }
 
     // Whether a write is taken.
+    #[inline(always)]
+    #[tactic(auto, unfolding(journal::specs::Meaning::taken))]
     fn takes(&self, write: Write) -> bool
         ensures { result ≡ taken write (table_meaning self.now) }
     {
@@ -96,6 +98,7 @@ impl Journal for TableJournal {
         }
     }
 
+    #[inline(always)]
     fn take(&mut self, write: Write) -> bool {
         let taken = self.takes(write);
         if taken {

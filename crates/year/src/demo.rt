@@ -3,7 +3,7 @@
 use crate::jobs;
 use crate::jobs::PROGRAM;
 use archive::Reader;
-use console::fail;
+use console::{Named, fail};
 use layers::Stack;
 use machine::Ledger;
 use std::fs;
@@ -60,7 +60,11 @@ fn show_and_break(rt: &HostRuntime, file: &mut Vec<u8>) -> anyhow::Result<()> {
     match Reader::open(file.as_slice()) {
         Ok(_) => fail(rt, PROGRAM, "the broken file was read"),
         Err(broken) => {
-            println!(rt; "with one byte changed: {PROGRAM}: {broken}")?;
+            let line = Named {
+                name: PROGRAM,
+                said: broken,
+            };
+            println!(rt; "with one byte changed: {line}")?;
             Ok(())
         }
     }

@@ -2,14 +2,19 @@
 
 use crate::jobs::PROGRAM;
 use archive::{Broken, ListRefusal, Refusal};
+use console::Named;
 use listing::Fault;
 use std::fmt::Display;
 use std::test::Fail;
 use yearbook::SealFault;
 
-// The line that the program says of an error.
+// The line that the program prints of an error: `or_fail` prints this one.
 fn said(rt: &HostRuntime, error: impl Display + Drop) -> Result<String, Fail> {
-    Ok(format!(in rt.alloc(); "{PROGRAM}: {error}")?)
+    let line = Named {
+        name: PROGRAM,
+        said: error,
+    };
+    Ok(format!(in rt.alloc(); "{line}")?)
 }
 
 #[test]

@@ -1,4 +1,4 @@
-use Rattle.std.proofs.Common.{◌≡◌, ◌∷◌, ◌++◌, [], length, Some, sym, ap, ◌∙◌, arith, rules}
+use Rattle.std.proofs.Common.{◌≡◌, ℕ, ◌+◌, ◌∷◌, ◌++◌, [], length, Some, sym, ap, ◌∙◌, arith, rules}
 use Rattle.octets.specs.Areas.{over}
 use Rattle.octets.specs.Numbers.{le}
 use Rattle.octets.proofs.Parts.{then_over}
@@ -20,9 +20,11 @@ returns-in-Ok-Change-clause-written c =
     let two = one ++ le 2 d.origin in
     let three = two ++ le serial_bytes d.serial in
     let p = then_over area _ c.write_le.new.area i _ one (le 2 d.origin) (omega arith)
-    c.write_bytes-in-Ok-Change.ensures (omega arith) c.write_le.ensures in
+    (c.write_bytes-in-Ok-Change.ensures ∙ ap (λ (n : ℕ). over area i (n ∷ [])) (omega arith))
+    (omega arith) c.write_le.ensures in
     let q = then_over area _ c.write_le-in-Ok-Change.new.area i _ two (le serial_bytes d.serial) (omega arith) p
-    (omega arith) c.write_le-in-Ok-Change.ensures in
+    (omega arith) (c.write_le-in-Ok-Change.ensures ∙ ap (λ (n : ℕ). over c.write_le.new.area (i + 3) (le serial_bytes n))
+    (omega arith)) in
     let r = then_over area _ c.write_le-in-Ok-Change-2.new.area i _ three (le 2 d.a) (omega arith) q (omega arith)
     c.write_le-in-Ok-Change-2.ensures in
     then_over area _ c.write_le-in-Ok-Change-3.new.area i _ (three ++ le 2 d.a) (le 2 d.b) (omega arith) r

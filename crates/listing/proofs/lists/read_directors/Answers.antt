@@ -14,7 +14,7 @@ returns-in_err-number c =
     let fault : c.from_residual.result ≡ Err (Unreadable 1) = search rules in
     rw (fault, whole.some_directors_is _ n)
     (whole.directors_stop c.in-Some.word.now _ _ (vec_items c.loop-word.members) (directors c.args.words)
-    (sym none ∙ number_is 16 c.in-Some.word.now _ c.read_number.ensures) s c.loop-word.invariant.1)
+    (sym none ∙ number_is 16 c.in-Some.word.now _ (omega arith) c.read_number.ensures) s c.loop-word.invariant.1)
 
 pub loop-word-preserved : goal.loop-word-preserved
 loop-word-preserved c =
@@ -23,6 +23,6 @@ loop-word-preserved c =
     let b : c.unwrap_or.result ≡ as_byte c.in_ok-number.number = search rules in (
       omega (arith, ap length s, simp length-append at (ap length c.in_ok-push.ensures.items)),
       whole.directors_more c.in-Some.word.now _ _ _ _ _ _ _
-          (some ∙ number_is 16 c.in-Some.word.now _ c.read_number.ensures) s b c.in_ok-push.ensures.items
+          (some ∙ number_is 16 c.in-Some.word.now _ (omega arith) c.read_number.ensures) s b c.in_ok-push.ensures.items
           c.loop-word.invariant.1,
     )
