@@ -7,6 +7,6 @@ abbrev pub status_of : {T E : Type 0} → Result T E → ℕ
 status_of (Ok _) = 0
 status_of (Err _) = 1
 
--- the words for what is said under a name, where `words` tells those of what is said: `name: words`
+-- the text of something said under a name, `name: words`, where `words` gives the text of what is said
 abbrev pub named_text : {E : Type 0} → (E → Option (List ℕ)) → Named E → Option (List ℕ)
 named_text words n = option_map (λ ws. n.name.now ++ codes ": " ++ ws) (words n.said)

@@ -72,8 +72,8 @@ pub fn fail(rt: &impl Eprint, program: &str, said: &str) -> anyhow::Result<()>
     or_fail(rt, program, Err(said))
 }
 
-/// What is said under a name, as `name: words`: an error under its program's, which is the line that a refusal prints,
-/// or under that of the file at which it came.
+/// Something said under a name, as `name: words`. The line of a refusal is an error under the program's name; an error
+/// at a file is said under the file's name first.
 #[derive(Drop)]
 pub struct Named<'a, E> {
     pub name: &'a str,
@@ -127,16 +127,24 @@ mod tests {
             text: RefCell::new(String::new(heap)),
         };
         assert!(rt; fail(&kept, "year", "usage").is_err());
+        assert!(rt; fail(&kept, "dump", "no usage").is_err());
         let refused: Result<u8, &str> = Err("refused 15 at 0");
+        assert!(rt; or_fail(&kept, "year", refused).is_err());
         assert!(rt; or_fail(&kept, "dump", refused).is_err());
         assert!(rt; or_fail_at(&kept, "year", "a file", refused).is_err());
+        assert!(rt; or_fail_at(&kept, "dump", "an area", refused).is_err());
         let done: Result<u8, &str> = Ok(7);
         assert_eq!(rt; or_fail(&kept, "dump", done)?, 7);
         assert_eq!(rt; or_fail_at(&kept, "year", "a file", done)?, 7);
         let text = kept.text.into_inner();
         assert_eq!(rt;
             text.as_str(),
-            "year: usage\ndump: refused 15 at 0\nyear: a file: refused 15 at 0\n"
+            "year: usage\n\
+             dump: no usage\n\
+             year: refused 15 at 0\n\
+             dump: refused 15 at 0\n\
+             year: a file: refused 15 at 0\n\
+             dump: an area: refused 15 at 0\n"
         );
         Ok(())
     }

@@ -8,7 +8,7 @@ use std::fmt::Display;
 use std::test::Fail;
 use yearbook::SealFault;
 
-// The line that the program prints of an error: `or_fail` prints this one.
+// The line that a refusal prints: `or_fail` prints the same `Named`.
 fn said(rt: &HostRuntime, error: impl Display + Drop) -> Result<String, Fail> {
     let line = Named {
         name: PROGRAM,
