@@ -1,6 +1,6 @@
-use Rattle.std.proofs.Common.{◌≡◌, codes, refl, ◌∙◌, arith}
-use Rattle.std.proofs.lemmas.Slice.Eq.{bytes_eq-Decides}
-use Rattle.listing.proofs.Lined.{entry_none, entry_word, entry_other}
+use Rattle.std.proofs.Common.{◌∙◌, codes, sym, arith}
+use Rattle.listing.proofs.Lined.{entry_none, entry_from}
+use Rattle.listing.proofs.FirstWords.{word_told, entry_noop, entry_add, entry_remove, entry_change, entry_other}
 use Rattle.listing.proofs.entries.read_entry.Goals as goal
 
 pub returns-in_err-word : goal.returns-in_err-word
@@ -8,26 +8,38 @@ returns-in_err-word c = grind (arith, entry_none)
 
 pub returns-then-eq : goal.returns-then-eq
 returns-then-eq c =
-    let e : c.in_ok-word.word.now ≡ codes "noop" = grind (arith, bytes_eq-Decides) in
-    c.end.ensures ∙ entry_word _ _ _ _ _ _ c.words-words.ensures c.in_ok-word.ensures.steps refl e
+    c.end.ensures ∙
+    sym (entry_from _ _ _ _ c.words-words.ensures c.in_ok-word.ensures.steps ∙
+    entry_noop c.in_ok-word.word.now c.next.new.self (word_told c.in_ok-word.word.now (codes "noop") _ _ c.as_slice.ensures c.if-eq.ensures))
 
 pub returns-then-eq-2 : goal.returns-then-eq-2
 returns-then-eq-2 c =
-    let e : c.in_ok-word.word.now ≡ codes "add" = grind (arith, bytes_eq-Decides) in
-    c.read_member.ensures ∙ entry_word _ _ _ _ _ _ c.words-words.ensures c.in_ok-word.ensures.steps refl e
+    c.read_member.ensures ∙
+    sym (entry_from _ _ _ _ c.words-words.ensures c.in_ok-word.ensures.steps ∙
+    entry_add c.in_ok-word.word.now c.next.new.self (word_told c.in_ok-word.word.now (codes "noop") _ _ c.as_slice.ensures c.if-eq.ensures)
+    (word_told c.in_ok-word.word.now (codes "add") _ _ c.as_slice-2.ensures c.if-eq-2.ensures))
 
 pub returns-then-eq-3 : goal.returns-then-eq-3
 returns-then-eq-3 c =
-    let e : c.in_ok-word.word.now ≡ codes "remove" = grind (arith, bytes_eq-Decides) in
-    c.read_member-then-eq-3.ensures ∙ entry_word _ _ _ _ _ _ c.words-words.ensures c.in_ok-word.ensures.steps refl e
+    c.read_member-then-eq-3.ensures ∙
+    sym (entry_from _ _ _ _ c.words-words.ensures c.in_ok-word.ensures.steps ∙
+    entry_remove c.in_ok-word.word.now c.next.new.self (word_told c.in_ok-word.word.now (codes "noop") _ _ c.as_slice.ensures c.if-eq.ensures)
+    (word_told c.in_ok-word.word.now (codes "add") _ _ c.as_slice-2.ensures c.if-eq-2.ensures)
+    (word_told c.in_ok-word.word.now (codes "remove") _ _ c.as_slice-3.ensures c.if-eq-3.ensures))
 
 pub returns-then-eq-4 : goal.returns-then-eq-4
 returns-then-eq-4 c =
-    let e : c.in_ok-word.word.now ≡ codes "change" = grind (arith, bytes_eq-Decides) in
-    c.read_change.ensures ∙ entry_word _ _ _ _ _ _ c.words-words.ensures c.in_ok-word.ensures.steps refl e
+    c.read_change.ensures ∙
+    sym (entry_from _ _ _ _ c.words-words.ensures c.in_ok-word.ensures.steps ∙
+    entry_change c.in_ok-word.word.now c.next.new.self (word_told c.in_ok-word.word.now (codes "noop") _ _ c.as_slice.ensures c.if-eq.ensures)
+    (word_told c.in_ok-word.word.now (codes "add") _ _ c.as_slice-2.ensures c.if-eq-2.ensures)
+    (word_told c.in_ok-word.word.now (codes "remove") _ _ c.as_slice-3.ensures c.if-eq-3.ensures)
+    (word_told c.in_ok-word.word.now (codes "change") _ _ c.as_slice-4.ensures c.if-eq-4.ensures))
 
 pub returns-else-eq-4 : goal.returns-else-eq-4
 returns-else-eq-4 c =
-    entry_other _ _ _ _ _ c.words-words.ensures c.in_ok-word.ensures.steps refl
-    (λ e. grind (arith, bytes_eq-Decides)) (λ e. grind (arith, bytes_eq-Decides))
-    (λ e. grind (arith, bytes_eq-Decides)) (λ e. grind (arith, bytes_eq-Decides))
+    sym (entry_from _ _ _ _ c.words-words.ensures c.in_ok-word.ensures.steps ∙
+    entry_other c.in_ok-word.word.now c.next.new.self (word_told c.in_ok-word.word.now (codes "noop") _ _ c.as_slice.ensures c.if-eq.ensures)
+    (word_told c.in_ok-word.word.now (codes "add") _ _ c.as_slice-2.ensures c.if-eq-2.ensures)
+    (word_told c.in_ok-word.word.now (codes "remove") _ _ c.as_slice-3.ensures c.if-eq-3.ensures)
+    (word_told c.in_ok-word.word.now (codes "change") _ _ c.as_slice-4.ensures c.if-eq-4.ensures))
